@@ -1,0 +1,15 @@
+pub mod Value
+pub mod Ring
+pub mod Volume
+pub mod Machine
+pub mod Vectors
+pub mod Points
+pub mod Order
+pub mod Directions
+pub mod Parting
+pub mod Tried
+pub mod Tetrahedra
+pub mod Near
+pub mod Bounds
+pub mod Millionths
+pub mod Measuring

@@ -1,0 +1,19 @@
+-- `geometry::apart::lesser` meets its contract. Assumes nothing.
+use mathlib.Core.Path.{_≡_, refl, sym, _∙_}
+use mir.Facts.{toZ-ofZ}
+use Rattle.geometry.specs.Vectors.{lesser-of}
+use Rattle.geometry.proofs.apart.lesser.Statement.{statement}
+use Rattle.geometry.proofs.apart.lesser.Tie as tie
+
+returns : tie.Need-returns
+unfolding lesser-of
+returns c =
+    let t = rw (toZ-ofZ (c .before .fits .a), toZ-ofZ (c .before .fits .b)) at (c .if1 .taken) in rw (t) (toZ-ofZ (c .before .fits .a))
+
+returns-2 : tie.Need-returns-2
+unfolding lesser-of
+returns-2 c =
+    let t = rw (toZ-ofZ (c .before .fits .a), toZ-ofZ (c .before .fits .b)) at (c .if1 .left) in rw (t) (toZ-ofZ (c .before .fits .b))
+
+pub lesser-spec : {M : Type 1} → statement M
+lesser-spec = tie.close (tie.spec returns returns-2)

@@ -1,0 +1,11 @@
+-- `geometry::measure::refuse` meets its contract. Assumes nothing.
+use mathlib.Core.Path.{_≡_, refl, sym, ap, _∙_}
+use Rattle.geometry.proofs.Measuring.{refused-is}
+use Rattle.geometry.proofs.measure.refuse.Statement.{statement}
+use Rattle.geometry.proofs.measure.refuse.Tie as tie
+
+returns : tie.Need-returns
+returns c = refused-is (c .args .number)
+
+pub refuse-spec : {M : Type 1} → statement M
+refuse-spec = tie.close (tie.spec returns)

@@ -1,0 +1,104 @@
+-- What a job that is not refused and a lawful filling satisfy: the chains of tests as records. Assumes nothing.
+use mathlib.Core.Path.{_≡_, refl}
+use mathlib.Core.Bool.{Bool, true, false, _&&_, not, cond}
+use mathlib.Core.List.{List}
+use Prim.Native.Nat.{ℕ, suc, _/_, _%_}
+use native.Mathlib.Omega.{arith}
+use borrow.Author.Tests.{eqb-true, not-false}
+use lib.Dec.{leb, eqb}
+use lib.ListN.{length}
+use lib.IntN.{ℤ}
+use Rattle.geometry.specs.declared.tetrahedron.Four.{Four}
+use Rattle.geometry.specs.Range.{any-far}
+use Rattle.laws.specs.Laws.{Job, law-1, law-2, law-3, law-4, law-5, law-6, law-7, broken, lawful, choose}
+use Rattle.laws.specs.Check.{job, job-refusal, two-alike, any-tri-bad, tris-alike, directed, unmatched, edge-bad, any-entry-bad, solid-unmeasured}
+
+-- a chain of tests gave 0: its first test failed, and the rest gave 0
+test-passed : (b : Bool) (n : ℕ) {x : ℕ} → cond b (suc n) x ≡ 0 → (b ≡ false) × (x ≡ 0)
+test-passed true n h = absurd (omega arith)
+test-passed false n h = (refl, h)
+
+-- a filling that breaks no law
+pub record Keeps (j : Job) (fs : List Four) : Type 0 where
+  pub l1 : law-1 (length (j .points)) fs ≡ true
+  pub l2 : law-2 j fs ≡ true
+  pub l3 : law-3 j fs ≡ true
+  pub l4 : law-4 j fs ≡ true
+  pub l5 : law-5 j fs ≡ true
+  pub l6 : law-6 j fs ≡ true
+  pub l7 : law-7 j fs ≡ true
+
+last-law-kept : (b : Bool) → _≡_ {A = ℕ} (cond b 0 7) 0 → b ≡ true
+last-law-kept true h = refl
+last-law-kept false h = absurd (omega arith)
+
+pub keeps : (j : Job) (fs : List Four) → lawful j fs ≡ true → Keeps j fs
+unfolding lawful broken
+keeps j fs h =
+    let p1 = test-passed (not (law-1 (length (j .points)) fs)) 0 (eqb-true (broken j fs) 0 h) in
+    let p2 = test-passed (not (law-2 j fs)) 1 (p1 .1) in
+    let p3 = test-passed (not (law-3 j fs)) 2 (p2 .1) in
+    let p4 = test-passed (not (law-4 j fs)) 3 (p3 .1) in
+    let p5 = test-passed (not (law-5 j fs)) 4 (p4 .1) in
+    let p6 = test-passed (not (law-6 j fs)) 5 (p5 .1) in
+    record {
+      l1 = not-false (law-1 (length (j .points)) fs) (p1 .0);
+      l2 = not-false (law-2 j fs) (p2 .0);
+      l3 = not-false (law-3 j fs) (p3 .0);
+      l4 = not-false (law-4 j fs) (p4 .0);
+      l5 = not-false (law-5 j fs) (p5 .0);
+      l6 = not-false (law-6 j fs) (p6 .0);
+      l7 = last-law-kept (law-7 j fs) (p6 .1);
+    }
+
+-- the other way round: a filling that keeps each law is lawful
+pub lawful-of : {j : Job} {fs : List Four} → Keeps j fs → lawful j fs ≡ true
+unfolding lawful broken
+lawful-of k = rw (k .l1, k .l2, k .l3, k .l4, k .l5, k .l6, k .l7)
+
+-- a job that is not refused: a field for each of the numbers 2 to 13, in their order
+pub record Accepted (ps : List ℤ) (ts es : List ℕ) (qs : List ℤ) : Type 0 where
+  pub shape : (eqb (length ps % 3) 0 && (leb 4 (length (job ps ts es qs .points)) && leb (length (job ps ts es qs .points)) 16)) ≡ true
+  pub near : any-far ps ≡ false
+  pub places : two-alike (job ps ts es qs .points) ≡ false
+  pub tri-shape : (eqb (length ts % 3) 0 && (leb 4 (length ts / 3) && leb (length ts / 3) 560)) ≡ true
+  pub tris-good : any-tri-bad (length (job ps ts es qs .points)) (job ps ts es qs .triangles) ≡ false
+  pub tris-unlike : tris-alike (job ps ts es qs .triangles) ≡ false
+  pub edges-even : unmatched (directed (job ps ts es qs .triangles)) (directed (job ps ts es qs .triangles)) ≡ false
+  pub kept-shape : (eqb (length es % 2) 0 && leb (length es / 2) 120) ≡ true
+  pub kept-good : edge-bad (length (job ps ts es qs .points)) (job ps ts es qs .kept) ≡ false
+  pub table-shape : eqb (length qs) (choose (length (job ps ts es qs .points)) 4) ≡ true
+  pub entries : any-entry-bad qs ≡ false
+  pub measured : solid-unmeasured (job ps ts es qs) ≡ false
+
+pub accepted : (ps : List ℤ) (ts es : List ℕ) (qs : List ℤ) → job-refusal ps ts es qs ≡ 0 → Accepted ps ts es qs
+unfolding job-refusal
+accepted ps ts es qs h =
+    let j = job ps ts es qs in
+    let n = length (j .points) in
+    let p2 = test-passed (not (eqb (length ps % 3) 0 && (leb 4 n && leb n 16))) 1 h in
+    let p3 = test-passed (any-far ps) 2 (p2 .1) in
+    let p4 = test-passed (two-alike (j .points)) 3 (p3 .1) in
+    let p5 = test-passed (not (eqb (length ts % 3) 0 && (leb 4 (length ts / 3) && leb (length ts / 3) 560))) 4 (p4 .1) in
+    let p6 = test-passed (any-tri-bad n (j .triangles)) 5 (p5 .1) in
+    let p7 = test-passed (tris-alike (j .triangles)) 6 (p6 .1) in
+    let p8 = test-passed (unmatched (directed (j .triangles)) (directed (j .triangles))) 7 (p7 .1) in
+    let p9 = test-passed (not (eqb (length es % 2) 0 && leb (length es / 2) 120)) 8 (p8 .1) in
+    let p10 = test-passed (edge-bad n (j .kept)) 9 (p9 .1) in
+    let p11 = test-passed (not (eqb (length qs) (choose n 4))) 10 (p10 .1) in
+    let p12 = test-passed (any-entry-bad qs) 11 (p11 .1) in
+    let p13 = test-passed (solid-unmeasured j) 12 (p12 .1) in
+    record {
+      shape = not-false (eqb (length ps % 3) 0 && (leb 4 n && leb n 16)) (p2 .0);
+      near = p3 .0;
+      places = p4 .0;
+      tri-shape = not-false (eqb (length ts % 3) 0 && (leb 4 (length ts / 3) && leb (length ts / 3) 560)) (p5 .0);
+      tris-good = p6 .0;
+      tris-unlike = p7 .0;
+      edges-even = p8 .0;
+      kept-shape = not-false (eqb (length es % 2) 0 && leb (length es / 2) 120) (p9 .0);
+      kept-good = p10 .0;
+      table-shape = not-false (eqb (length qs) (choose n 4)) (p11 .0);
+      entries = p12 .0;
+      measured = p13 .0;
+    }

@@ -1,0 +1,107 @@
+-- What the checker refuses: numbers 2 to 13. Assumes nothing: these are definitions.
+use mathlib.Core.Path.{_≡_}
+use mathlib.Core.Bool.{Bool, true, false, _&&_, _||_, not, cond}
+use mathlib.Core.List.{List, [], _∷_, _++_}
+use mathlib.Core.Option.{Option, none, some}
+use Prim.Native.Nat.{ℕ, zero, suc, _+_, _*_, _-_, _/_, _%_, _^_, _≤_, _<_, min}
+use lib.Dec.{ltb, leb, eqb}
+use lib.ListN.{length, getD, set, take, drop, replicate}
+use lib.IntN.{ℤ, pos, negsuc}
+use Rattle.geometry.specs.Range.{any-far}
+use Rattle.geometry.specs.Space.{V3, four, point, points-in, solid, same-place}
+use Rattle.geometry.specs.declared.tetrahedron.Four.{Four}
+use Rattle.laws.specs.Laws.{Job, Tri, tri, Edge, choose, entry, same-tri, reversed}
+
+unfoldable pub place-taken : V3 → List V3 → Bool
+place-taken p [] = false
+place-taken p (q ∷ qs) = same-place p q || place-taken p qs
+
+unfoldable pub two-alike : List V3 → Bool
+two-alike [] = false
+two-alike (p ∷ ps) = place-taken p ps || two-alike ps
+
+unfoldable pub tris-in : (left : ℕ) → List ℕ → List Tri
+tris-in zero bs = []
+tris-in (suc n) bs = tri (getD bs 0 0) (getD bs 1 0) (getD bs 2 0) ∷ tris-in n (drop 3 bs)
+
+unfoldable pub edges-in : (left : ℕ) → List ℕ → List Edge
+edges-in zero bs = []
+edges-in (suc n) bs = record { a = getD bs 0 0; b = getD bs 1 0 } ∷ edges-in n (drop 2 bs)
+
+unfoldable pub tri-bad : (n : ℕ) → Tri → Bool
+tri-bad n t =
+    (leb n (t .a) || (leb n (t .b) || leb n (t .c))) || (eqb (t .a) (t .b) || (eqb (t .b) (t .c) || eqb (t .a) (t .c)))
+
+unfoldable pub any-tri-bad : (n : ℕ) → List Tri → Bool
+any-tri-bad n [] = false
+any-tri-bad n (t ∷ ts) = tri-bad n t || any-tri-bad n ts
+
+-- two triangles with the same three points, either way round
+unfoldable pub tri-taken : Tri → List Tri → Bool
+tri-taken t [] = false
+tri-taken t (s ∷ ss) = (same-tri t s || same-tri (reversed t) s) || tri-taken t ss
+
+unfoldable pub tris-alike : List Tri → Bool
+tris-alike [] = false
+tris-alike (t ∷ ts) = tri-taken t ts || tris-alike ts
+
+-- directed edges: as often as their reverses
+unfoldable pub directed : List Tri → List Edge
+directed [] = []
+directed (t ∷ ts) =
+    record { a = t .a; b = t .b } ∷ record { a = t .b; b = t .c } ∷ record { a = t .c; b = t .a } ∷ directed ts
+
+unfoldable pub how-often : (a b : ℕ) → List Edge → ℕ
+how-often a b [] = 0
+how-often a b (e ∷ es) = cond (eqb (e .a) a && eqb (e .b) b) 1 0 + how-often a b es
+
+unfoldable pub unmatched : (rest all : List Edge) → Bool
+unmatched [] es = false
+unmatched (e ∷ rest) es = not (eqb (how-often (e .a) (e .b) es) (how-often (e .b) (e .a) es)) || unmatched rest es
+
+unfoldable pub edge-bad : (n : ℕ) → List Edge → Bool
+edge-bad n [] = false
+edge-bad n (e ∷ es) = (leb n (e .a) || (leb n (e .b) || eqb (e .a) (e .b))) || edge-bad n es
+
+unfoldable pub entry-bad : ℤ → Bool
+entry-bad (pos n) = ltb 1000000 n
+entry-bad (negsuc n) = ltb 0 n
+
+unfoldable pub any-entry-bad : List ℤ → Bool
+any-entry-bad [] = false
+any-entry-bad (v ∷ vs) = entry-bad v || any-entry-bad vs
+
+-- a solid four unmeasured, among all fours of n points
+unfoldable pub unmeasured : ℤ → Bool
+unmeasured (pos n) = false
+unmeasured (negsuc n) = true
+
+unfoldable pub over : (left from : ℕ) → (ℕ → Bool) → Bool
+over zero i f = false
+over (suc n) i f = f i || over n (suc i) f
+
+unfoldable pub solid-unmeasured : Job → Bool
+solid-unmeasured j =
+    let n = length (j .points) in
+    over n 0 (λ a. over (n - suc a) (suc a) (λ b. over (n - suc b) (suc b) (λ c. over (n - suc c) (suc c) (λ d.
+    solid (j .points) (four a b c d) && unmeasured (entry j (four a b c d))))))
+
+unfoldable pub job : (points : List ℤ) → (triangles kept : List ℕ) → (table : List ℤ) → Job
+job ps ts es qs =
+    record { points = points-in ps; triangles = tris-in (length ts / 3) ts; kept = edges-in (length es / 2) es; table = qs }
+
+unfoldable pub job-refusal : (points : List ℤ) → (triangles kept : List ℕ) → (table : List ℤ) → ℕ
+job-refusal ps ts es qs =
+    let j = job ps ts es qs in
+    let n = length (j .points) in
+    let edges = directed (j .triangles) in
+    cond (not (eqb (length ps % 3) 0 && (leb 4 n && leb n 16))) 2
+    (cond (any-far ps) 3
+    (cond (two-alike (j .points)) 4
+    (cond (not (eqb (length ts % 3) 0 && (leb 4 (length ts / 3) && leb (length ts / 3) 560))) 5
+    (cond (any-tri-bad n (j .triangles)) 6
+    (cond (tris-alike (j .triangles)) 7
+    (cond (unmatched edges edges) 8
+    (cond (not (eqb (length es % 2) 0 && leb (length es / 2) 120)) 9
+    (cond (edge-bad n (j .kept)) 10
+    (cond (not (eqb (length qs) (choose n 4))) 11 (cond (any-entry-bad qs) 12 (cond (solid-unmeasured j) 13 0)))))))))))

@@ -1,0 +1,44 @@
+-- What is promised of fillings. Each statement is a type whose proof is owed. Assumes nothing.
+use mathlib.Core.Path.{_≡_}
+use mathlib.Core.Bool.{Bool, true, false, _&&_, _||_, not, cond}
+use mathlib.Core.List.{List, [], _∷_, _++_}
+use mathlib.Core.Option.{Option, none, some}
+use Prim.Native.Nat.{ℕ, zero, suc, _+_, _*_, _-_, _/_, _%_, _^_, _≤_, _<_, min}
+use lib.Dec.{ltb, leb, eqb}
+use lib.ListN.{length, getD, set, take, drop, replicate}
+use lib.IntN.{ℤ}
+use Rattle.geometry.specs.Space.{Z, z, plus, equal, four, D, turned, V3}
+use Rattle.geometry.specs.declared.tetrahedron.Four.{Four}
+use Rattle.laws.specs.Laws.{Job, lawful, worst, Best, list-before, place, choose, rising, bytes, fours-in}
+use Rattle.laws.specs.Check.{job, job-refusal}
+
+-- THE THIRD DEMAND: a job that is not refused and has a lawful filling has just one best one
+unfoldable pub Best-there : Type 0
+Best-there =
+    (ps : List ℤ) (ts es : List ℕ) (qs : List ℤ) (gs : List Four) → job-refusal ps ts es qs ≡ 0 → lawful (job ps ts es qs) gs ≡ true →
+    (fs : List Four) × Best (job ps ts es qs) fs
+
+unfoldable pub Best-alone : Type 0
+Best-alone = (j : Job) (fs gs : List Four) → Best j fs → Best j gs → fs ≡ gs
+
+-- lawful fillings of one job fill the same space: the sums of D agree
+unfoldable pub sum-D : List V3 → List Four → Z
+sum-D ps [] = z 0 0
+sum-D ps (f ∷ fs) = plus (D ps (turned ps f)) (sum-D ps fs)
+
+unfoldable pub Same-space : Type 0
+Same-space =
+    (ps : List ℤ) (ts es : List ℕ) (qs : List ℤ) (fs gs : List Four) → job-refusal ps ts es qs ≡ 0 → lawful (job ps ts es qs) fs ≡ true →
+    lawful (job ps ts es qs) gs ≡ true → equal (sum-D (job ps ts es qs .points) fs) (sum-D (job ps ts es qs .points) gs) ≡ true
+
+-- the table: each rising four has a place of its own below the number of fours
+unfoldable pub Places-right : Type 0
+Places-right =
+    (n : ℕ) (f g : Four) → n ≤ 16 → rising f ≡ true → rising g ≡ true → f .d < n → g .d < n →
+    (place n f < choose n 4) × (place n f ≡ place n g → f ≡ g)
+
+-- a filling has at most 1,820 tetrahedra, so that its bytes fit the answer
+unfoldable pub Fits : Type 0
+Fits =
+    (ps : List ℤ) (ts es : List ℕ) (qs : List ℤ) (fs : List Four) → job-refusal ps ts es qs ≡ 0 → lawful (job ps ts es qs) fs ≡ true →
+    (length (bytes fs) ≤ 7280) × (fours-in (length fs) (bytes fs) ≡ fs)

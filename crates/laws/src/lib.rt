@@ -1,0 +1,2 @@
+// The laws of a filling.
+pub mod judge;
