@@ -21,3 +21,12 @@ pub mod Rigidity
 pub mod OpenFaces
 pub mod Best
 pub mod Promises
+pub mod Points
+pub mod Signed
+pub mod Scan
+pub mod Rest
+pub mod Counts
+pub mod TablePlace
+pub mod FourLoops
+pub mod Refusal
+pub mod Order
