@@ -2,16 +2,20 @@
 use mathlib.Core.Path.{_≡_, refl, sym, ap, _∙_}
 use mathlib.Core.Bool.{Bool, true, false, _&&_, _||_, not}
 use mathlib.Core.List.{List, [], _∷_, _++_}
-use Prim.Native.Nat.{ℕ}
+use Prim.Native.Nat.{ℕ, _<_, _^_}
 use lib.Dec.{eqb}
 use lib.IntN.{ℤ, natAbs}
-use lib.Signed.{leZ}
+use lib.Signed.{mag, leZ}
+use mir.Syntax.{w64}
+use mir.Val.{toZ, ofZ, hbits}
 use Rattle.geometry.specs.Space.{V3, apart}
 use Rattle.geometry.specs.declared.tetrahedron.Four.{Four}
 use Rattle.geometry.specs.declared.tetrahedron.Corners.{Corners}
 use Rattle.geometry.specs.declared.vector.Vector.{Vector}
 use Rattle.geometry.specs.declared.apart.Extent.{Extent}
 use Rattle.geometry.specs.Vectors.{corners-of, dot-product, cross-product, lesser-of, greater-of, zero-vector, extent-of, parting, any-parting, normals-of, edge-vectors, crosses-of, all-crosses-of}
+use Rattle.geometry.proofs.Machine.{kept}
+use Rattle.geometry.proofs.Order.{greater-le, le-lesser}
 use Rattle.geometry.proofs.Parting.{any-append, apart-by-extent}
 
 -- ---- the zero vector
@@ -37,8 +41,67 @@ pub extent-is :
 unfolding extent-of
 extent-is n t ea eb ec ed el em ex ep eq ey = cc
 
-pub extents-compared : {b : Bool} {u v u′ v′ : Extent} → b ≡ leZ (u .greatest) (v .least) → u ≡ u′ → v ≡ v′ → b ≡ leZ (u′ .greatest) (v′ .least)
-extents-compared e p q = cc
+-- four corners one after the other, against an end of another extent
+module _ (n : Vector) (t : Corners) (e : ℤ) where
+  abbrev along-a : ℤ
+  along-a = dot-product n (t .a)
+
+  abbrev along-b : ℤ
+  along-b = dot-product n (t .b)
+
+  abbrev along-c : ℤ
+  along-c = dot-product n (t .c)
+
+  abbrev along-d : ℤ
+  along-d = dot-product n (t .d)
+
+  beyond-each : leZ e (extent-of n t .least) ≡ (leZ e along-a && leZ e along-b) && (leZ e along-c && leZ e along-d)
+  unfolding extent-of
+  beyond-each =
+      le-lesser (lesser-of along-a along-b) (lesser-of along-c along-d) e ∙ rw (le-lesser along-a along-b e, le-lesser along-c along-d e) refl
+
+  short-each : leZ (extent-of n t .greatest) e ≡ (leZ along-a e && leZ along-b e) && (leZ along-c e && leZ along-d e)
+  unfolding extent-of
+  short-each =
+      greater-le (greater-of along-a along-b) (greater-of along-c along-d) e ∙ rw (greater-le along-a along-b e, greater-le along-c along-d e) refl
+
+  pub beyond-a : leZ e along-a ≡ false → false ≡ leZ e (extent-of n t .least)
+  beyond-a p = sym (beyond-each ∙ rw p refl)
+
+  pub beyond-b : leZ e along-a ≡ true → leZ e along-b ≡ false → false ≡ leZ e (extent-of n t .least)
+  beyond-b p q = sym (beyond-each ∙ rw (p, q) refl)
+
+  pub beyond-c : leZ e along-a ≡ true → leZ e along-b ≡ true → leZ e along-c ≡ false → false ≡ leZ e (extent-of n t .least)
+  beyond-c p q r = sym (beyond-each ∙ rw (p, q, r) refl)
+
+  pub beyond-d : leZ e along-a ≡ true → leZ e along-b ≡ true → leZ e along-c ≡ true → leZ e along-d ≡ leZ e (extent-of n t .least)
+  beyond-d p q r = sym (beyond-each ∙ rw (p, q, r) refl)
+
+  pub short-a : leZ along-a e ≡ false → false ≡ leZ (extent-of n t .greatest) e
+  short-a p = sym (short-each ∙ rw p refl)
+
+  pub short-b : leZ along-a e ≡ true → leZ along-b e ≡ false → false ≡ leZ (extent-of n t .greatest) e
+  short-b p q = sym (short-each ∙ rw (p, q) refl)
+
+  pub short-c : leZ along-a e ≡ true → leZ along-b e ≡ true → leZ along-c e ≡ false → false ≡ leZ (extent-of n t .greatest) e
+  short-c p q r = sym (short-each ∙ rw (p, q, r) refl)
+
+  pub short-d : leZ along-a e ≡ true → leZ along-b e ≡ true → leZ along-c e ≡ true → leZ along-d e ≡ leZ (extent-of n t .greatest) e
+  short-d p q r = sym (short-each ∙ rw (p, q, r) refl)
+
+-- a corner's value as the machine holds it, tested against an end
+pub tested-beyond : {b : Bool} (e : ℤ) {x y : ℤ} → b ≡ leZ e (toZ w64 (ofZ w64 x)) → mag x < 2 ^ hbits w64 → x ≡ y → leZ e y ≡ b
+tested-beyond e {x} h m d = sym (h ∙ ap (leZ e) (kept x m ∙ d))
+
+pub tested-short : {b : Bool} (e : ℤ) {x y : ℤ} → b ≡ leZ (toZ w64 (ofZ w64 x)) e → mag x < 2 ^ hbits w64 → x ≡ y → leZ y e ≡ b
+tested-short e {x} h m d = sym (h ∙ ap (λ (v : ℤ). leZ v e) (kept x m ∙ d))
+
+-- an end of the one extent, once it is known
+pub beyond-at : (n : Vector) (t : Corners) {b : Bool} {u v : Extent} → b ≡ leZ (u .greatest) (extent-of n t .least) → u ≡ v → b ≡ leZ (v .greatest) (extent-of n t .least)
+beyond-at n t h e = h ∙ ap (λ (x : Extent). leZ (x .greatest) (extent-of n t .least)) e
+
+pub short-at : (n : Vector) (t : Corners) {b : Bool} {u v : Extent} → b ≡ leZ (extent-of n t .greatest) (u .least) → u ≡ v → b ≡ leZ (extent-of n t .greatest) (v .least)
+short-at n t h e = h ∙ ap (λ (x : Extent). leZ (extent-of n t .greatest) (x .least)) e
 
 -- a direction made with an edge, once the edge is known
 pub by-edge :

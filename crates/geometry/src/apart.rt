@@ -31,10 +31,17 @@ pub fn greater(a: i64, b: i64) -> i64
     if a < b { b } else { a }
 }
 
-pub fn ends_before(p: Extent, q: Extent) -> bool
-    ensures { λ r. ⌜ r ≡ leZ (p .greatest) (q .least) ⌝ }
+// Whether a value lies at or beyond the greatest, or at or before the least.
+pub fn is_beyond(p: Extent, v: i64) -> bool
+    ensures { λ r. ⌜ r ≡ leZ (p .greatest) v ⌝ }
 {
-    p.greatest <= q.least
+    p.greatest <= v
+}
+
+pub fn is_short(p: Extent, v: i64) -> bool
+    ensures { λ r. ⌜ r ≡ leZ v (p .least) ⌝ }
+{
+    v <= p.least
 }
 
 pub fn no_direction(n: Vector) -> bool
@@ -63,6 +70,40 @@ pub fn extent_along(n: Vector, t: Corners) -> Extent
     }
 }
 
+// Whether every corner lies at or beyond the greatest value; left at the first that does not.
+pub fn lies_beyond(n: Vector, p: Extent, t: Corners) -> bool
+    requires { ⌜ Bounded widest n × In-range t ⌝ }
+    ensures { λ r. ⌜ r ≡ leZ (p .greatest) (extent-of n t .least) ⌝ }
+{
+    if !is_beyond(p, dot(n, t.a)) {
+        return false;
+    }
+    if !is_beyond(p, dot(n, t.b)) {
+        return false;
+    }
+    if !is_beyond(p, dot(n, t.c)) {
+        return false;
+    }
+    is_beyond(p, dot(n, t.d))
+}
+
+// The same of the least value.
+pub fn lies_short(n: Vector, p: Extent, t: Corners) -> bool
+    requires { ⌜ Bounded widest n × In-range t ⌝ }
+    ensures { λ r. ⌜ r ≡ leZ (extent-of n t .greatest) (p .least) ⌝ }
+{
+    if !is_short(p, dot(n, t.a)) {
+        return false;
+    }
+    if !is_short(p, dot(n, t.b)) {
+        return false;
+    }
+    if !is_short(p, dot(n, t.c)) {
+        return false;
+    }
+    is_short(p, dot(n, t.d))
+}
+
 // The test of one direction: yes exactly when it is not zero and parts the two.
 pub fn parts(n: Vector, s: Corners, t: Corners) -> bool
     requires { ⌜ Bounded widest n × In-range s × In-range t ⌝ }
@@ -72,11 +113,10 @@ pub fn parts(n: Vector, s: Corners, t: Corners) -> bool
         return false;
     }
     let p = extent_along(n, s);
-    let q = extent_along(n, t);
-    if ends_before(p, q) {
+    if lies_beyond(n, p, t) {
         return true;
     }
-    ends_before(q, p)
+    lies_short(n, p, t)
 }
 
 // The same of the normal of a face.

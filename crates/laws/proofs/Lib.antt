@@ -30,3 +30,14 @@ pub mod TablePlace
 pub mod FourLoops
 pub mod Refusal
 pub mod Order
+pub mod FaceCodes
+pub mod Passes
+pub mod FourList
+pub mod LawSteps
+pub mod Qualities
+pub mod ProperFaces
+pub mod FaceFlags
+pub mod FlagSteps
+pub mod FlagLoops
+pub mod LawChain
+pub mod Judging

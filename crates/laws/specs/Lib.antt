@@ -2,6 +2,9 @@ pub mod Laws
 pub mod Check
 pub mod Listed
 pub mod Unmeasured
+pub mod ListedFours
+pub mod FaceCodes
+pub mod FaceFlags
 pub mod Judge
 pub mod Members
 pub mod Fours
