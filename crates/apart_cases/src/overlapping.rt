@@ -11,62 +11,47 @@ pub fn show() {
 
 fn show_inside() {
     report(
-        b"a corner one inside",
-        &LARGE,
-        &[1, 1, 1, -60, -1, -2, -1, -60, -3, -2, -3, -60],
-    );
-    report(
         b"a face one inside",
-        &CORNER,
-        &[1, 1, 1, 7, 1, 1, 1, 7, 1, 2, 2, -5],
+        CORNER,
+        [1, 1, 1, 7, 1, 1, 1, 7, 1, 2, 2, -5],
     );
     report(
         b"a face in common on one side",
-        &LARGE,
-        &[0, 0, 0, 60, 0, 0, 0, 60, 0, 10, 10, 30],
+        LARGE,
+        [0, 0, 0, 60, 0, 0, 0, 60, 0, 10, 10, 30],
     );
     report(
-        b"a corner deep inside",
-        &LARGE,
-        &[5, 5, 5, 70, 10, 10, 10, 70, 10, 10, 10, 70],
+        b"a corner one inside",
+        LARGE,
+        [1, 1, 1, -60, -1, -2, -1, -60, -3, -2, -3, -60],
     );
     report(
         b"one inside the other",
-        &LARGE,
-        &[5, 5, 5, 10, 5, 5, 5, 10, 5, 5, 5, 10],
+        LARGE,
+        [5, 5, 5, 10, 5, 5, 5, 10, 5, 5, 5, 10],
     );
     report(
         b"one inside on a face",
-        &LARGE,
-        &[5, 5, 0, 10, 5, 0, 5, 10, 0, 5, 5, 10],
-    );
-    report(
-        b"one inside on an edge",
-        &LARGE,
-        &[0, 0, 0, 60, 0, 0, 0, 50, 10, 0, 10, 50],
+        LARGE,
+        [5, 5, 0, 10, 5, 0, 5, 10, 0, 5, 5, 10],
     );
 }
 
 fn show_across() {
-    report(b"the same", &LARGE, &LARGE);
+    report(b"the same", LARGE, LARGE);
     report(
         b"the same turned round",
-        &LARGE,
-        &[60, 0, 0, 0, 0, 0, 0, 60, 0, 0, 0, 60],
-    );
-    report(
-        b"a star of two",
-        &[1, 1, 1, 1, -1, -1, -1, 1, -1, -1, -1, 1],
-        &[-1, -1, -1, -1, 1, 1, 1, -1, 1, 1, 1, -1],
+        LARGE,
+        [60, 0, 0, 0, 0, 0, 0, 60, 0, 0, 0, 60],
     );
     report(
         b"edges that cross one inside",
-        &LYING,
-        &[0, -4, -1, 0, 4, -1, -3, 0, 5, 3, 0, 5],
+        LYING,
+        [0, -4, -1, 0, 4, -1, -3, 1, 5, 4, -2, 6],
     );
     report(
         b"a needle through",
-        &LARGE,
-        &[-50, 10, 10, 100, 10, 10, -50, 11, 10, -50, 10, 11],
+        LARGE,
+        [-50, 10, 10, 100, 10, 10, -50, 11, 10, -50, 10, 11],
     );
 }

@@ -1,6 +1,4 @@
 // What is found of one pair.
-ghost use Prim.Native.Nat.{_≤_};
-ghost use lib.ListN.{length};
 use geometry::tetrahedron::Four;
 use geometry_c::checked::NO;
 use geometry_c::checked::YES;
@@ -54,15 +52,45 @@ fn corners_inside(points: &[i32], f: Four, g: Four) -> u64 {
     one_more(c, inside(points, t, g.d))
 }
 
-// The answer is the same whichever is named first and however the corners are ordered.
+// f in the order that puts the edge from a to b in the k-th of the six places of an edge.
+fn in_order(f: Four, k: usize) -> Four {
+    let a = f.a;
+    let b = f.b;
+    let c = f.c;
+    let d = f.d;
+    match k {
+        0 => f,
+        1 => four(a, c, b, d),
+        2 => four(a, c, d, b),
+        3 => four(d, a, b, c),
+        4 => four(c, a, d, b),
+        _ => four(c, d, a, b),
+    }
+}
+
+fn four(a: usize, b: usize, c: usize, d: usize) -> Four {
+    Four { a, b, c, d }
+}
+
+// Whether the answer is the same in each of 36 orders of the corners.
+fn is_same_in_order(points: &[i32], f: Four, g: Four, answer: i32) -> bool {
+    for k in 0..36 {
+        if apart(points, in_order(f, k / 6), in_order(g, k % 6)) != answer {
+            return false;
+        }
+    }
+    true
+}
+
+// The answer is the same whichever is named first, and however the corners are ordered.
 fn print_apart(points: &[i32], f: Four, g: Four) {
     let answer = apart(points, f, g);
-    if apart(points, g, f) != answer {
-        print(b"apart one way only\n");
+    if !is_same_in_order(points, f, g, answer) {
+        print(b"apart in some orders only\n");
         return;
     }
-    if apart(points, turned(points, f), turned(points, g)) != answer {
-        print(b"apart in one order only\n");
+    if !is_same_in_order(points, g, f, answer) {
+        print(b"apart one way only\n");
         return;
     }
     if answer == YES {
@@ -90,48 +118,34 @@ fn print_pair(points: &[i32], f: Four, g: Four) {
 }
 
 // What stands at i in f followed by g, 0 past their end.
-fn number_at(f: &[i32], g: &[i32], i: usize) -> i32 {
-    if i < f.len() {
+fn number_at(f: &[i32; 12], g: &[i32; 12], i: usize) -> i32 {
+    if i < 12 {
         return f[i];
     }
-    let k = i - f.len();
-    if k < g.len() { g[k] } else { 0 }
+    if i < 24 { g[i - 12] } else { 0 }
 }
 
-fn count_of(f: &[i32], g: &[i32], most: usize) -> usize
-    ensures { λ r. ⌜ r ≤ most ⌝ }
-{
-    let n = f.len() + g.len();
-    if n < most { n } else { most }
-}
-
-// Puts f followed by g at the start of out, as far as they fit, and answers how many numbers those are.
-fn join(f: &[i32], g: &[i32], out: &mut [i32]) -> usize
-    ensures { λ r. ⌜ r ≤ length (now (out .exit)) ⌝ }
-{
-    let n = count_of(f, g, out.len());
-    for i in 0..n {
+// Puts f followed by g into out.
+fn join(f: &[i32; 12], g: &[i32; 12], out: &mut [i32]) {
+    for i in 0..out.len() {
         out[i] = number_at(f, g, i);
     }
-    n
 }
 
-// The points of one and of the other: four each, or the pair is refused.
-pub fn report(name: &[u8], one: &[i32], other: &[i32]) {
-    let f = Four {
-        a: 0,
-        b: 1,
-        c: 2,
-        d: 3,
-    };
-    let g = Four {
-        a: 4,
-        b: 5,
-        c: 6,
-        d: 7,
-    };
-    let mut space = [0i32; 24];
-    let n = join(one, other, &mut space);
+// What is found of the tetrahedra of the first n numbers of f followed by g; refused where those are not eight points.
+pub fn report_first(n: usize, name: &[u8], f: [i32; 12], g: [i32; 12]) {
+    let mut points = [0i32; 24];
+    join(&f, &g, &mut points);
     print(name);
-    print_pair(&space[0..n], f, g);
+    let one = four(0, 1, 2, 3);
+    let other = four(4, 5, 6, 7);
+    if n < 24 {
+        print_pair(&points[0..n], one, other);
+    } else {
+        print_pair(&points, one, other);
+    }
+}
+
+pub fn report(name: &[u8], f: [i32; 12], g: [i32; 12]) {
+    report_first(24, name, f, g);
 }

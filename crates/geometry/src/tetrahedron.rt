@@ -71,7 +71,7 @@ pub fn oriented(points: &[i32], f: Four) -> Four
     }
 }
 
-// Whether the point p lies strictly inside f, read in the order that makes its volume positive.
+// Whether the point p lies strictly inside f. f must come in the order that makes its volume positive (`oriented`): in the other order the answer is no.
 pub fn is_inside(points: &[i32], f: Four, p: usize) -> bool
     requires { ⌜ Present (now points) f × (p < length (points-in (now points))) ⌝ }
     ensures { λ r. ⌜ r ≡ inside (points-in (now (points .entry))) f (point (points-in (now (points .entry))) p) ⌝ }

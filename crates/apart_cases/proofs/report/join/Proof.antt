@@ -1,4 +1,4 @@
--- `apart_cases::report::join` meets its contract: as many numbers are put as fit. Assumes nothing.
+-- `apart_cases::report::join` is safe and ends. Assumes nothing.
 use Prim.Native.Nat.{_≤_, _-_}
 use mathlib.Core.Path.{_≡_}
 use native.Mathlib.Omega.{arith}
@@ -8,13 +8,10 @@ use Rattle.apart_cases.proofs.report.join.Statement.{statement}
 use Rattle.apart_cases.proofs.report.join.Tie as tie
 
 abbrev Inv-loop : tie.InvT-loop
-Inv-loop f g out₀ n i₀ out i = (i ≤ n) × (length out ≡ length out₀)
+Inv-loop f g out₀ i₀ i-end out i = (i ≤ i-end) × (i-end ≡ length out) × (length out ≡ length out₀)
 
 abbrev μ-loop : tie.MeasureT-loop
-μ-loop f g out₀ n i₀ out i = n - i
-
-count-of-requires : tie.Need-count-of-requires Inv-loop μ-loop
-count-of-requires c κs = search needs
+μ-loop f g out₀ i₀ i-end out i = i-end - i
 
 loop-holds : tie.Need-loop-holds Inv-loop μ-loop
 loop-holds c = search needs
@@ -22,8 +19,8 @@ loop-holds c = search needs
 number-at-requires : tie.Need-number-at-requires Inv-loop μ-loop
 number-at-requires c κs = search needs
 
-mul-t9 : tie.Need-mul-t9 Inv-loop μ-loop
-mul-t9 c = search needs
+mul-t8 : tie.Need-mul-t8 Inv-loop μ-loop
+mul-t8 c = search needs
 
 slice-set-from-out : tie.Need-slice-set-from-out Inv-loop μ-loop
 slice-set-from-out c = search needs
@@ -35,7 +32,7 @@ loop-less : tie.Need-loop-less Inv-loop μ-loop
 loop-less c = search needs
 
 loop-again : tie.Need-loop-again Inv-loop μ-loop
-loop-again c = search needs
+loop-again c = simp length-set (omega arith, omega arith, omega arith)
 
 same-length : tie.Need-same-length Inv-loop μ-loop
 same-length c = search needs
@@ -49,10 +46,9 @@ join-spec =
     (tie.spec
     Inv-loop
     μ-loop
-    count-of-requires
     loop-holds
     number-at-requires
-    mul-t9
+    mul-t8
     slice-set-from-out
     add-i
     loop-less
