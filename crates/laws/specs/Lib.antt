@@ -9,3 +9,5 @@ pub mod Judge
 pub mod Members
 pub mod Fours
 pub mod Promise
+pub mod Lists
+pub mod Choice

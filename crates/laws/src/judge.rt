@@ -14,6 +14,7 @@ ghost use Rattle.laws.specs.Check.{job, job-refusal};
 ghost use Rattle.laws.specs.Judge.{judged, Judge-says};
 
 // The number that refuses the job, 0 for none; then the lowest law broken, 0 for none; then the worst quality.
+#[repr(C)]
 pub struct Verdict {
     pub number: u32,
     pub law: u32,

@@ -1,0 +1,52 @@
+// The kernel for C and Rust. Assumes nothing. No function has a `requires`: each takes any lists and refuses what it can't use.
+// A slice is a pointer and a length; a refusal changes no byte of a lent buffer.
+ghost use mathlib.Core.Path.{_≡_};
+ghost use Rattle.laws.specs.Check.{job-refusal};
+ghost use Rattle.laws.specs.Judge.{Judge-says};
+ghost use Rattle.search.specs.Entry.{Search-says};
+use laws::check::check_job;
+use laws::judge::Verdict;
+use laws::judge::judge;
+use search::search::Found;
+use search::search::search;
+
+// 0 for a job that can be searched, else 2 to 13.
+#[no_mangle]
+pub extern "C" fn cottontuff_check(
+    points: &[i32],
+    triangles: &[u8],
+    kept: &[u8],
+    table: &[i32],
+) -> u32
+    ensures { λ r. ⌜ r ≡ job-refusal (now (points .entry)) (now (triangles .entry)) (now (kept .entry)) (now (table .entry)) ⌝ }
+{
+    check_job(points, triangles, kept, table)
+}
+
+// The verdict on a list of fours: a refusal, the lowest law broken, or the worst quality.
+#[no_mangle]
+pub extern "C" fn cottontuff_judge(
+    points: &[i32],
+    triangles: &[u8],
+    kept: &[u8],
+    table: &[i32],
+    list: &[u8],
+) -> Verdict
+    ensures { λ r. ⌜ Judge-says (now (points .entry)) (now (triangles .entry)) (now (kept .entry)) (now (table .entry)) (now (list .entry)) r ⌝ }
+{
+    judge(points, triangles, kept, table, list)
+}
+
+// The best filling, its bytes at the start of the answer; or a refusal, and the answer as it was.
+#[no_mangle]
+pub extern "C" fn cottontuff_search(
+    points: &[i32],
+    triangles: &[u8],
+    kept: &[u8],
+    table: &[i32],
+    answer: &mut [u8],
+) -> Found
+    ensures { λ r. ⌜ Search-says (now (points .entry)) (now (triangles .entry)) (now (kept .entry)) (now (table .entry)) r (now (answer .entry)) (now (answer .exit)) ⌝ }
+{
+    search(points, triangles, kept, table, answer)
+}

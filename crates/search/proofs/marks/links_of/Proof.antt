@@ -1,0 +1,81 @@
+-- `search::marks::links_of` meets its contract. The loop's invariant: the candidates passed are linked. Assumes nothing.
+use mathlib.Core.Logic.{⊎-elim, inl, inr}
+use Prim.Native.Nat.{_-_, _≤_}
+use native.Mathlib.Omega.{arith}
+use borrow.Author.Tests.{eqb-true, eqb-false}
+use Rattle.search.specs.Tables.{Below-16}
+use Rattle.search.proofs.LinkLoop.{Linking, four-below, linking-start, linking-skip, linking-corners, linking-done}
+use Rattle.search.proofs.marks.links_of.Statement.{statement}
+use Rattle.search.proofs.marks.links_of.Tie as tie
+
+abbrev Inv-loop : tie.InvT-loop
+Inv-loop fours m v w mark link₀ k₀ link k = (k ≤ m) × Linking m fours mark v w k link
+
+abbrev μ-loop : tie.MeasureT-loop
+μ-loop fours m v w mark link₀ k₀ link k = m - k
+
+-- the candidate that was read has points below 16
+present : (c : tie.After-four-at Inv-loop μ-loop) → Below-16 (c .four-at .result)
+present c =
+    let x = c .before .before .before .before .before in rw (c .four-at .ensures) (four-below (x .args .m) (x .args .fours .now) (c .before .before .before .loop .k) (x .pre .1) (omega arith))
+
+loop-holds : tie.Need-loop-holds Inv-loop μ-loop
+loop-holds c = let x = c .before .args in (omega arith, linking-start (x .m) (x .fours .now) (x .t3) (x .v) (x .w))
+
+array-read-x : tie.Need-array-read-x Inv-loop μ-loop
+array-read-x c = omega arith
+
+four-at-requires : tie.Need-four-at-requires Inv-loop μ-loop
+four-at-requires c κs = (omega arith, omega arith, omega arith)
+
+link-corner-requires : tie.Need-link-corner-requires Inv-loop μ-loop
+link-corner-requires c κs = let p = present (c .before) in (p .a, p)
+
+link-corner-requires-2 : tie.Need-link-corner-requires-2 Inv-loop μ-loop
+link-corner-requires-2 c κs = let p = present (c .before .before .before) in (p .b, p)
+
+link-corner-requires-3 : tie.Need-link-corner-requires-3 Inv-loop μ-loop
+link-corner-requires-3 c κs = let p = present (c .before .before .before .before .before) in (p .c, p)
+
+link-corner-requires-4 : tie.Need-link-corner-requires-4 Inv-loop μ-loop
+link-corner-requires-4 c κs = let p = present (c .before .before .before .before .before .before .before) in (p .d, p)
+
+add-k : tie.Need-add-k Inv-loop μ-loop
+add-k c = omega arith
+
+loop-less : tie.Need-loop-less Inv-loop μ-loop
+loop-less c = omega arith
+
+loop-again : tie.Need-loop-again Inv-loop μ-loop
+loop-again c =
+    let x = c .before .before .before .before in
+    let l = c .before .before .loop .inv in (
+      omega arith,
+      ⊎-elim
+          (λ w. rw (w .10)
+          (linking-corners (x .args .m) (x .args .fours .now) (x .args .t3) (x .args .v) (x .args .w) (x .pre .1) (omega arith)
+          (⊎-elim (λ t. inl (t .taken)) (λ t. inr (eqb-true _ _ (t .1 .taken))) (w .0 .came)) (w .1 .ensures) (w .3 .ensures) (w .5 .ensures) (w .7 .ensures) (w .9 .ensures) (l .1)))
+          (λ w. rw (w .2) (linking-skip (x .args .m) (x .args .fours .now) (x .args .t3) (x .args .v) (x .args .w) (w .0 .left) (eqb-false _ _ (w .1 .left)) (l .1)))
+          (c .if1 .came),
+    )
+
+returns : tie.Need-returns Inv-loop μ-loop
+returns c = let x = c .before .before .before .args in linking-done (x .m) (x .fours .now) (x .t3) (x .v) (x .w) (omega arith) (c .before .loop .inv .1)
+
+pub links-of-spec : {M : Type 1} → statement M
+links-of-spec =
+    tie.close
+    (tie.spec
+    Inv-loop
+    μ-loop
+    loop-holds
+    array-read-x
+    four-at-requires
+    link-corner-requires
+    link-corner-requires-2
+    link-corner-requires-3
+    link-corner-requires-4
+    add-k
+    loop-less
+    loop-again
+    returns)

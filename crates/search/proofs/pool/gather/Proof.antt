@@ -1,0 +1,103 @@
+-- `search::pool::gather` meets its contract. The loop's invariant: the tables hold the candidates before f. Its measure falls as f, read as digits, rises. Assumes nothing.
+use mathlib.Core.Path.{_≡_, sym, _∙_}
+use Prim.Native.Nat.{_-_, _/_, _≤_}
+use native.Mathlib.Omega.{arith}
+use lib.ListN.{length}
+use Rattle.geometry.specs.Space.{points-in}
+use Rattle.laws.specs.Check.{job}
+use Rattle.search.proofs.Gathering.{measured, Gathering, gathering-start, room-for, gathering-step, gathering-end}
+use Rattle.search.proofs.FourSteps.{Staged, staged-start, staged-within, staged-next, rank, rank-bounded, rank-rises}
+use Rattle.search.proofs.CoverageByNumber.{points-count}
+use Rattle.search.proofs.pool.gather.Statement.{statement}
+use Rattle.search.proofs.pool.gather.Tie as tie
+
+abbrev Inv-loop : tie.InvT-loop
+Inv-loop points triangles kept table bound q fours₀ codes₀ quals₀ n f₀ k₀ fours codes quals f k =
+    (n ≡ length (points-in points)) × Staged n f × Gathering (job points triangles kept table) q fours codes quals k f
+
+abbrev μ-loop : tie.MeasureT-loop
+μ-loop points triangles kept table bound q fours₀ codes₀ quals₀ n f₀ k₀ fours codes quals f k =
+    160000 - rank f
+
+loop-holds : tie.Need-loop-holds Inv-loop μ-loop
+loop-holds c =
+    let s = c .before .before .before .before .before .before in
+    let a = s .args in
+    let e = sym (points-count (a .points .now)) in
+    let m = measured (a .points .now) (a .triangles .now) (a .kept .now) (a .table .now) (s .pre .0) in
+    (e, rw e (staged-start (length (points-in (a .points .now))) (m .least)), gathering-start (job (a .points .now) (a .triangles .now) (a .kept .now) (a .table .now)) (a .q) (s .pre .4) (s .pre .5) (s .pre .6))
+
+consider-four-requires : tie.Need-consider-four-requires Inv-loop μ-loop
+consider-four-requires c κs =
+    let s = c .before .before .before .before .before .before .before .before .before .before .before .before in
+    let a = s .args in
+    let i = c .before .before .before .before .before .loop .inv in
+    let m = measured (a .points .now) (a .triangles .now) (a .kept .now) (a .table .now) (s .pre .0) in (
+      s .pre .0,
+      s .pre .1,
+      s .pre .2,
+      i .0,
+      staged-within (i .1) (c .before .before .before .if1 .taken),
+      s .pre .3,
+      i .2 .fours-long,
+      i .2 .codes-long,
+      i .2 .quals-long,
+      room-for (a .points .now) (a .triangles .now) (a .kept .now) (a .table .now) (m .most) (i .2),
+    )
+
+next-four-requires : tie.Need-next-four-requires Inv-loop μ-loop
+next-four-requires c κs =
+    let s = c .before .before .before .before .before .before .before .before .before .before .before .before .before .before .before .before .before .before .before in
+    let a = s .args in
+    let i = c .before .before .before .before .before .before .before .before .before .before .before .before .loop .inv in
+    let m = measured (a .points .now) (a .triangles .now) (a .kept .now) (a .table .now) (s .pre .0) in (omega (arith, m .most, i .0), staged-within (i .1) (c .before .before .before .before .before .before .before .before .before .before .if1 .taken))
+
+loop-less : tie.Need-loop-less Inv-loop μ-loop
+loop-less c =
+    let s = c .before .before .before .before .before .before .before .before .before .before .before .before .before .before .before .before .before .before .before .before in
+    let a = s .args in
+    let i = c .before .before .before .before .before .before .before .before .before .before .before .before .before .loop .inv in
+    let m = measured (a .points .now) (a .triangles .now) (a .kept .now) (a .table .now) (s .pre .0) in
+    let n : length (a .points .now) / 3 ≤ 16 = omega (arith, m .most, i .0) in
+    let g = staged-within (i .1) (c .before .before .before .before .before .before .before .before .before .before .before .if1 .taken) in
+    omega (arith, rank-rises n g (c .next-four .ensures), rank-bounded n (staged-next g (c .next-four .ensures)))
+
+loop-again : tie.Need-loop-again Inv-loop μ-loop
+loop-again c =
+    let s = c .before .before .before .before .before .before .before .before .before .before .before .before .before .before .before .before .before .before .before .before in
+    let a = s .args in
+    let i = c .before .before .before .before .before .before .before .before .before .before .before .before .before .loop .inv in
+    let m = measured (a .points .now) (a .triangles .now) (a .kept .now) (a .table .now) (s .pre .0) in
+    let g = staged-within (i .1) (c .before .before .before .before .before .before .before .before .before .before .before .if1 .taken) in
+    (i .0, staged-next g (c .next-four .ensures), gathering-step (a .points .now) (a .triangles .now) (a .kept .now) (a .table .now) (i .0) (m .most) g (i .2) (c .before .before .before .before .before .before .before .consider-four .ensures) (c .next-four .ensures))
+
+same-length : tie.Need-same-length Inv-loop μ-loop
+same-length c = c .before .before .loop .inv .2 .fours-long ∙ sym (c .before .before .before .before .before .before .before .before .before .pre .4)
+
+same-length-2 : tie.Need-same-length-2 Inv-loop μ-loop
+same-length-2 c = c .before .before .loop .inv .2 .codes-long ∙ sym (c .before .before .before .before .before .before .before .before .before .pre .5)
+
+same-length-3 : tie.Need-same-length-3 Inv-loop μ-loop
+same-length-3 c = c .before .before .loop .inv .2 .quals-long ∙ sym (c .before .before .before .before .before .before .before .before .before .pre .6)
+
+returns : tie.Need-returns Inv-loop μ-loop
+returns c =
+    let s = c .before .before .before .before .before .before .before .before .before in
+    let a = s .args in
+    let i = c .before .before .loop .inv in gathering-end (a .points .now) (a .triangles .now) (a .kept .now) (a .table .now) (i .0) (s .pre .0) (i .1) (omega arith) (i .2)
+
+pub gather-spec : {M : Type 1} → statement M
+gather-spec =
+    tie.close
+    (tie.spec
+    Inv-loop
+    μ-loop
+    loop-holds
+    consider-four-requires
+    next-four-requires
+    loop-less
+    loop-again
+    same-length
+    same-length-2
+    same-length-3
+    returns)

@@ -1,0 +1,10 @@
+// The search.
+pub mod best;
+pub mod codes;
+pub mod extend;
+pub mod first;
+pub mod marks;
+pub mod pool;
+pub mod search;
+pub mod settle;
+pub mod thin;

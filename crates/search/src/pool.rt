@@ -1,0 +1,404 @@
+// Pools of candidates: the fours that a lawful filling can hold, each by itself, gathered in order with their faces' numbers and their qualities.
+ghost use mathlib.Core.Path.{_≡_};
+ghost use mathlib.Core.Bool.{true, false, _&&_, _||_, not};
+ghost use Prim.Native.Nat.{_+_, _*_, _/_, _<_, _≤_};
+ghost use lib.Dec.{ltb};
+ghost use lib.IntN.{pos};
+ghost use lib.Signed.{ltZ};
+ghost use lib.ListN.{length, getD, set};
+ghost use Rattle.geometry.specs.Space.{points-in, point, turned, D};
+ghost use Rattle.geometry.specs.Vectors.{value};
+ghost use Rattle.geometry.specs.Range.{Present, any-far};
+ghost use Rattle.laws.specs.Laws.{tri, fours-in, entry, quality, none-inside};
+ghost use Rattle.laws.specs.Check.{job, job-refusal};
+ghost use Rattle.search.specs.Codes.{face-code, flip-code, Bound-flags};
+ghost use Rattle.search.specs.Filing.{put-four, put-faces, copied, Follows, Considered};
+ghost use Rattle.search.specs.Marks.{marked};
+ghost use Rattle.search.specs.Part.{candidate};
+ghost use Rattle.search.specs.Pierce.{pierces, pierces-four, pierced};
+ghost use Rattle.search.specs.Tables.{All-below, Stage, Filed, Whole};
+use crate::codes::Faces;
+use crate::codes::face_code;
+use crate::codes::flip;
+use geometry::tetrahedron::Four;
+use geometry::tetrahedron::is_inside;
+use geometry::tetrahedron::is_solid;
+use geometry::tetrahedron::oriented;
+use geometry::tetrahedron::signed_volume;
+use laws::table::entry;
+
+// The fours of increasing numbers in order; behind the last one the last number is n.
+pub fn next_four(n: usize, f: Four) -> Four
+    requires { ⌜ (n ≤ 16) × Stage n f ⌝ }
+    ensures { λ r. ⌜ Follows n f r ⌝ }
+{
+    if f.d + 1 < n {
+        return Four {
+            a: f.a,
+            b: f.b,
+            c: f.c,
+            d: f.d + 1,
+        };
+    }
+    if f.c + 2 < n {
+        return Four {
+            a: f.a,
+            b: f.b,
+            c: f.c + 1,
+            d: f.c + 2,
+        };
+    }
+    if f.b + 3 < n {
+        return Four {
+            a: f.a,
+            b: f.b + 1,
+            c: f.b + 2,
+            d: f.b + 3,
+        };
+    }
+    Four {
+        a: f.a + 1,
+        b: f.a + 2,
+        c: f.a + 3,
+        d: f.a + 4,
+    }
+}
+
+// The numbers of the faces (a,c,b), (a,b,d), (a,d,c), (b,c,d).
+pub fn face_codes(f: Four) -> Faces
+    requires { ⌜ (f .a < 16) × (f .b < 16) × (f .c < 16) × (f .d < 16) ⌝ }
+    ensures { λ r. ⌜ (r .a ≡ face-code (tri (f .a) (f .c) (f .b))) × (r .b ≡ face-code (tri (f .a) (f .b) (f .d))) × (r .c ≡ face-code (tri (f .a) (f .d) (f .c))) × (r .d ≡ face-code (tri (f .b) (f .c) (f .d))) × ((r .a < 4096) × (r .b < 4096) × (r .c < 4096) × (r .d < 4096)) ⌝ }
+{
+    Faces {
+        a: face_code(f.a, f.c, f.b) as u16,
+        b: face_code(f.a, f.b, f.d) as u16,
+        c: face_code(f.a, f.d, f.c) as u16,
+        d: face_code(f.b, f.c, f.d) as u16,
+    }
+}
+
+// Whether some face has its reverse on the boundary.
+pub fn backs_boundary(bound: &[u8], c: Faces) -> bool
+    requires { ⌜ (length (now bound) ≡ 4096) × ((c .a < 4096) × (c .b < 4096) × (c .c < 4096) × (c .d < 4096)) ⌝ }
+    ensures { λ r. ⌜ r ≡ ltb 0 (getD (now (bound .entry)) (flip-code (c .a)) 0) || (ltb 0 (getD (now (bound .entry)) (flip-code (c .b)) 0) || (ltb 0 (getD (now (bound .entry)) (flip-code (c .c)) 0) || ltb 0 (getD (now (bound .entry)) (flip-code (c .d)) 0))) ⌝ }
+{
+    let a = flip(c.a as usize);
+    if bound[a] > 0 {
+        return true;
+    }
+    let b = flip(c.b as usize);
+    if bound[b] > 0 {
+        return true;
+    }
+    let d = flip(c.c as usize);
+    if bound[d] > 0 {
+        return true;
+    }
+    let e = flip(c.d as usize);
+    bound[e] > 0
+}
+
+fn opposite(p: i64, q: i64) -> bool
+    ensures { λ r. ⌜ r ≡ (ltZ (pos 0) p && ltZ q (pos 0)) || (ltZ p (pos 0) && ltZ (pos 0) q) ⌝ }
+{
+    if 0 < p {
+        return q < 0;
+    }
+    if p < 0 {
+        return 0 < q;
+    }
+    false
+}
+
+fn one_sign(u: i64, v: i64, w: i64) -> bool
+    ensures { λ r. ⌜ r ≡ (ltZ (pos 0) u && (ltZ (pos 0) v && ltZ (pos 0) w)) || (ltZ u (pos 0) && (ltZ v (pos 0) && ltZ w (pos 0))) ⌝ }
+{
+    if 0 < u {
+        if 0 < v {
+            return 0 < w;
+        }
+        return false;
+    }
+    if u < 0 {
+        if v < 0 {
+            return w < 0;
+        }
+    }
+    false
+}
+
+// D of the tetrahedron with these corners.
+fn volume(points: &[i32], a: usize, b: usize, c: usize, d: usize) -> i64
+    requires { ⌜ Present (now points) (record { a = a; b = b; c = c; d = d }) ⌝ }
+    ensures { λ r. ⌜ r ≡ value (D (points-in (now (points .entry))) (record { a = a; b = b; c = c; d = d })) ⌝ }
+{
+    signed_volume(points, Four { a, b, c, d })
+}
+
+// Whether the edge from a to b runs through the triangle x, y, w from side to side.
+pub fn edge_pierces(points: &[i32], a: usize, b: usize, x: usize, y: usize, w: usize) -> bool
+    requires { ⌜ Present (now points) (record { a = a; b = b; c = x; d = y }) × (w < length (points-in (now points))) ⌝ }
+    ensures { λ r. ⌜ r ≡ pierces (points-in (now (points .entry))) a b x y w ⌝ }
+{
+    let p = volume(points, x, y, w, a);
+    let q = volume(points, x, y, w, b);
+    if !opposite(p, q) {
+        return false;
+    }
+    let r = volume(points, a, b, x, y);
+    let s = volume(points, a, b, y, w);
+    let t = volume(points, a, b, w, x);
+    one_sign(r, s, t)
+}
+
+// Whether it runs through a face of f.
+pub fn edge_pierces_four(points: &[i32], a: usize, b: usize, f: Four) -> bool
+    requires { ⌜ Present (now points) f × (a < length (points-in (now points))) × (b < length (points-in (now points))) ⌝ }
+    ensures { λ r. ⌜ r ≡ pierces-four (points-in (now (points .entry))) a b f ⌝ }
+{
+    if edge_pierces(points, a, b, f.a, f.b, f.c) {
+        return true;
+    }
+    if edge_pierces(points, a, b, f.a, f.b, f.d) {
+        return true;
+    }
+    if edge_pierces(points, a, b, f.a, f.c, f.d) {
+        return true;
+    }
+    edge_pierces(points, a, b, f.b, f.c, f.d)
+}
+
+// Whether some kept edge does.
+pub fn is_pierced(points: &[i32], triangles: &[u8], kept: &[u8], table: &[i32], f: Four) -> bool
+    requires { ⌜ Present (now points) f × All-below (length (points-in (now points))) (length (now kept) / 2 * 2) (now kept) ⌝ }
+    ensures { λ r. ⌜ r ≡ pierced (points-in (now (points .entry))) (job (now (points .entry)) (now (triangles .entry)) (now (kept .entry)) (now (table .entry)) .kept) f ⌝ }
+{
+    for i in 0..kept.len() / 2 {
+        let a = kept[i * 2] as usize;
+        let b = kept[i * 2 + 1] as usize;
+        if edge_pierces_four(points, a, b, f) {
+            return true;
+        }
+    }
+    false
+}
+
+// Whether some point lies strictly inside f, read in the order that makes its volume positive.
+pub fn any_inside(points: &[i32], n: usize, f: Four) -> bool
+    requires { ⌜ Present (now points) f × (n ≡ length (points-in (now points))) ⌝ }
+    ensures { λ r. ⌜ r ≡ not (none-inside (points-in (now (points .entry))) f (points-in (now (points .entry)))) ⌝ }
+{
+    for p in 0..n {
+        if is_inside(points, f, p) {
+            return true;
+        }
+    }
+    false
+}
+
+// Whether f can stand in a lawful filling, but for its quality.
+pub fn can_stand(
+    points: &[i32],
+    triangles: &[u8],
+    kept: &[u8],
+    table: &[i32],
+    bound: &[u8],
+    n: usize,
+    f: Four,
+) -> bool
+    requires { ⌜ (job-refusal (now points) (now triangles) (now kept) (now table) ≡ 0) × Bound-flags (job (now points) (now triangles) (now kept) (now table) .triangles) (now bound) × (length (now bound) ≡ 4096) × (n ≡ length (points-in (now points))) × Stage n f ⌝ }
+    ensures { λ r. ⌜ (0 < quality (entry (job (now (points .entry)) (now (triangles .entry)) (now (kept .entry)) (now (table .entry))) f) → r ≡ candidate (job (now (points .entry)) (now (triangles .entry)) (now (kept .entry)) (now (table .entry))) f) ⌝ }
+{
+    if !is_solid(points, f) {
+        return false;
+    }
+    let g = oriented(points, f);
+    if backs_boundary(bound, face_codes(g)) {
+        return false;
+    }
+    if is_pierced(points, triangles, kept, table, f) {
+        return false;
+    }
+    !any_inside(points, n, g)
+}
+
+// Writes the bytes of a four at the place k.
+pub fn put_four(fours: &mut [u8], k: usize, a: u8, b: u8, c: u8, d: u8)
+    requires { ⌜ k * 4 + 4 ≤ length (now fours) ⌝ }
+    ensures { λ r. ⌜ now (fours .exit) ≡ put-four k a b c d (now (fours .entry)) ⌝ }
+{
+    fours[k * 4] = a;
+    fours[k * 4 + 1] = b;
+    fours[k * 4 + 2] = c;
+    fours[k * 4 + 3] = d;
+}
+
+// Writes the face numbers of a four at the place k.
+pub fn put_faces(codes: &mut [u16], k: usize, c: Faces)
+    requires { ⌜ k * 4 + 4 ≤ length (now codes) ⌝ }
+    ensures { λ r. ⌜ now (codes .exit) ≡ put-four k (c .a) (c .b) (c .c) (c .d) (now (codes .entry)) ⌝ }
+{
+    codes[k * 4] = c.a;
+    codes[k * 4 + 1] = c.b;
+    codes[k * 4 + 2] = c.c;
+    codes[k * 4 + 3] = c.d;
+}
+
+// Writes the candidate f at the place k.
+pub fn file(
+    points: &[i32],
+    fours: &mut [u8],
+    codes: &mut [u16],
+    quals: &mut [u32],
+    k: usize,
+    f: Four,
+    q: u32,
+)
+    requires { ⌜ Present (now points) f × ((f .a < 16) × (f .b < 16) × (f .c < 16) × (f .d < 16)) × (k < 1820) × (length (now fours) ≡ 7280) × (length (now codes) ≡ 7280) × (length (now quals) ≡ 1820) ⌝ }
+    ensures { λ r. ⌜ (now (fours .exit) ≡ put-four k (f .a) (f .b) (f .c) (f .d) (now (fours .entry))) × (now (codes .exit) ≡ put-faces k (turned (points-in (now (points .entry))) f) (now (codes .entry))) × (now (quals .exit) ≡ set (now (quals .entry)) k q) ⌝ }
+{
+    let c = face_codes(oriented(points, f));
+    put_four(fours, k, f.a as u8, f.b as u8, f.c as u8, f.d as u8);
+    put_faces(codes, k, c);
+    quals[k] = q;
+}
+
+// Files f where it is a candidate of quality q at least; how many are filed then.
+pub fn consider_four(
+    points: &[i32],
+    triangles: &[u8],
+    kept: &[u8],
+    table: &[i32],
+    bound: &[u8],
+    n: usize,
+    q: u32,
+    f: Four,
+    fours: &mut [u8],
+    codes: &mut [u16],
+    quals: &mut [u32],
+    k: usize,
+) -> usize
+    requires { ⌜ (job-refusal (now points) (now triangles) (now kept) (now table) ≡ 0) × Bound-flags (job (now points) (now triangles) (now kept) (now table) .triangles) (now bound) × (length (now bound) ≡ 4096) × (n ≡ length (points-in (now points))) × Stage n f × (0 < q) × (length (now fours) ≡ 7280) × (length (now codes) ≡ 7280) × (length (now quals) ≡ 1820) × (candidate (job (now points) (now triangles) (now kept) (now table)) f ≡ true → k < 1820) ⌝ }
+    ensures { λ r. ⌜ Considered (job (now (points .entry)) (now (triangles .entry)) (now (kept .entry)) (now (table .entry))) q f (now (fours .entry)) (now (codes .entry)) (now (quals .entry)) k (now (fours .exit)) (now (codes .exit)) (now (quals .exit)) r ⌝ }
+{
+    let e = entry(table, n, f);
+    if e <= 0 {
+        return k;
+    }
+    let v = e as u32;
+    if v < q {
+        return k;
+    }
+    if !can_stand(points, triangles, kept, table, bound, n, f) {
+        return k;
+    }
+    file(points, fours, codes, quals, k, f, v);
+    k + 1
+}
+
+// The candidates of quality q at least.
+pub fn gather(
+    points: &[i32],
+    triangles: &[u8],
+    kept: &[u8],
+    table: &[i32],
+    bound: &[u8],
+    q: u32,
+    fours: &mut [u8],
+    codes: &mut [u16],
+    quals: &mut [u32],
+) -> usize
+    requires { ⌜ (job-refusal (now points) (now triangles) (now kept) (now table) ≡ 0) × Bound-flags (job (now points) (now triangles) (now kept) (now table) .triangles) (now bound) × (length (now bound) ≡ 4096) × (0 < q) × (length (now fours) ≡ 7280) × (length (now codes) ≡ 7280) × (length (now quals) ≡ 1820) ⌝ }
+    ensures { λ r. ⌜ Whole (now (points .entry)) (now (triangles .entry)) (now (kept .entry)) (now (table .entry)) q (now (fours .exit)) (now (codes .exit)) (now (quals .exit)) r ⌝ }
+{
+    let n = points.len() / 3;
+    let mut f = Four {
+        a: 0,
+        b: 1,
+        c: 2,
+        d: 3,
+    };
+    let mut k: usize = 0;
+    while f.d < n {
+        k = consider_four(
+            points,
+            triangles,
+            kept,
+            table,
+            bound,
+            n,
+            q,
+            f,
+            fours,
+            codes,
+            quals,
+            k,
+        );
+        f = next_four(n, f);
+    }
+    k
+}
+
+// Writes the candidate k of one pool as the candidate c of another.
+pub fn copy_candidate(
+    fours: &[u8],
+    codes: &[u16],
+    quals: &[u32],
+    k: usize,
+    fours2: &mut [u8],
+    codes2: &mut [u16],
+    quals2: &mut [u32],
+    c: usize,
+)
+    requires { ⌜ (k * 4 + 4 ≤ length (now fours)) × (k * 4 + 4 ≤ length (now codes)) × (k < length (now quals)) × (c * 4 + 4 ≤ length (now fours2)) × (c * 4 + 4 ≤ length (now codes2)) × (c < length (now quals2)) ⌝ }
+    ensures { λ r. ⌜ (now (fours2 .exit) ≡ copied k c (now (fours .entry)) (now (fours2 .entry))) × (now (codes2 .exit) ≡ copied k c (now (codes .entry)) (now (codes2 .entry))) × (now (quals2 .exit) ≡ set (now (quals2 .entry)) c (getD (now (quals .entry)) k 0)) ⌝ }
+{
+    put_four(
+        fours2,
+        c,
+        fours[k * 4],
+        fours[k * 4 + 1],
+        fours[k * 4 + 2],
+        fours[k * 4 + 3],
+    );
+    put_faces(
+        codes2,
+        c,
+        Faces {
+            a: codes[k * 4],
+            b: codes[k * 4 + 1],
+            c: codes[k * 4 + 2],
+            d: codes[k * 4 + 3],
+        },
+    );
+    quals2[c] = quals[k];
+}
+
+// The alive ones of a pool as a pool of their own.
+pub fn compact(
+    points: &[i32],
+    triangles: &[u8],
+    kept: &[u8],
+    table: &[i32],
+    fours: &[u8],
+    codes: &[u16],
+    quals: &[u32],
+    m: usize,
+    mark: [u8; 1820],
+    fours2: &mut [u8],
+    codes2: &mut [u16],
+    quals2: &mut [u32],
+) -> usize
+    requires { ⌜ Filed (now points) (now triangles) (now kept) (now table) (now fours) (now codes) (now quals) m × (length (now fours2) ≡ 7280) × (length (now codes2) ≡ 7280) × (length (now quals2) ≡ 1820) ⌝ }
+    ensures { λ r. ⌜ Filed (now (points .entry)) (now (triangles .entry)) (now (kept .entry)) (now (table .entry)) (now (fours2 .exit)) (now (codes2 .exit)) (now (quals2 .exit)) r × (fours-in r (now (fours2 .exit)) ≡ marked 1 (fours-in m (now (fours .entry))) mark) ⌝ }
+{
+    let mut c: usize = 0;
+    for k in 0..m {
+        let x = mark[k];
+        if x == 1 {
+            copy_candidate(fours, codes, quals, k, fours2, codes2, quals2, c);
+            c += 1;
+        }
+    }
+    c
+}
