@@ -1,15 +1,10 @@
-// A case: its coordinates, and what measuring is to answer.
-ghost use Prim.Native.Nat.{_≤_};
-ghost use lib.ListN.{length};
-use crate::number::Number;
-use crate::number::Signed;
-use crate::number::coordinate;
-use crate::number::decimal;
-use crate::number::hexadecimal;
-use crate::text::after;
-use crate::text::before;
-use crate::text::past;
+// What a case says that measuring answers.
 use check::same;
+use lines::number::Number;
+use lines::number::decimal;
+use lines::number::hexadecimal;
+use lines::text::after;
+use lines::text::before;
 
 pub enum Expected {
     Refused(u64),
@@ -21,32 +16,6 @@ pub enum Expected {
         millionths: u64,
     },
     Nothing,
-}
-
-// Puts the coordinates of s at the start of out and answers how many there are, 0 where s is no list of them or a longer one.
-pub fn coordinates(s: &[u8], out: &mut [i32]) -> usize
-    ensures { λ r. ⌜ r ≤ length (now (out .exit)) ⌝ }
-{
-    let mut n: usize = 0;
-    let mut rest = s;
-    while n < out.len() {
-        let one = before(rest, b',');
-        match coordinate(one) {
-            Signed::Is(x) => {
-                out[n] = x;
-            }
-            Signed::Nothing => {
-                return 0;
-            }
-        }
-        n += 1;
-        if one.len() == rest.len() {
-            return n;
-        }
-        let next = past(rest, b',');
-        rest = &rest[next..];
-    }
-    0
 }
 
 fn refused(n: Number) -> Expected {

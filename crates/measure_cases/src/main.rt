@@ -2,9 +2,7 @@
 // R,3 or R,16 (refused), FLAT,S or SHAPE,D,S,q,BITS,MILLIONTHS: q in hexadecimal, then its 64 bits. Assumes nothing; any bytes may come.
 mod case;
 mod compare;
-mod number;
 mod tally;
-mod text;
 
 use libc::STDIN_FILENO;
 use libc::STDOUT_FILENO;

@@ -1,15 +1,17 @@
 // How many cases were measured, of which kind, and how many agree.
-use crate::case::coordinates;
 use crate::case::result_of;
 use crate::compare::agrees;
 use crate::compare::tells;
-use crate::text::after;
-use crate::text::before;
-use crate::text::past;
 use geometry::measure::Measured;
 use geometry::measure::Measurement;
 use geometry::measure::measure;
-use libc::STDOUT_FILENO;
+use lines::list::integers;
+use lines::tally::next;
+use lines::tally::print;
+use lines::tally::print_count;
+use lines::text::after;
+use lines::text::before;
+use lines::text::past;
 
 pub struct Tally {
     pub lines: u64,
@@ -25,15 +27,6 @@ pub struct Tally {
 
 // The most lines that are named as different.
 const NAMED: u64 = 5;
-
-fn next(n: u64) -> u64 {
-    if n < u64::MAX { n + 1 } else { n }
-}
-
-fn print_count(n: u64, what: &[u8]) {
-    io::print_decimal(STDOUT_FILENO, n);
-    io::write_all(STDOUT_FILENO, what);
-}
 
 impl Tally {
     fn new() -> Self {
@@ -85,10 +78,11 @@ impl Tally {
         self.lines = next(self.lines);
         // A case has twelve, or shows that another count is refused.
         let mut xs = [0i32; 16];
-        let n = coordinates(before(line, b';'), &mut xs);
-        if n == 0 {
+        let read = integers(before(line, b';'), &mut xs);
+        if !read.is_read {
             return self.with_verdict(false, false);
         }
+        let n = read.n;
         let m = measure(&xs[0..n]);
         let e = result_of(after(line, b';'));
         let answer = m.answer;
@@ -98,7 +92,7 @@ impl Tally {
 
     fn print_difference(self) {
         if self.differ <= NAMED {
-            io::write_all(STDOUT_FILENO, b"differs: line ");
+            print(b"differs: line ");
             print_count(self.lines, b"\n");
         }
     }

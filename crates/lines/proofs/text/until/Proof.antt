@@ -1,11 +1,11 @@
--- `measure_cases::text::until` is safe and ends. Assumes nothing.
+-- `lines::text::until` is safe and ends. Assumes nothing.
 use Prim.Native.Nat.{_≤_, _-_}
 use mathlib.Core.Path.{_≡_}
 use native.Mathlib.Omega.{arith}
 use lib.ListN.{length}
 use borrow.Author.Needs.{needs}
-use Rattle.measure_cases.proofs.text.until.Statement.{statement}
-use Rattle.measure_cases.proofs.text.until.Tie as tie
+use Rattle.lines.proofs.text.until.Statement.{statement}
+use Rattle.lines.proofs.text.until.Tie as tie
 
 abbrev Inv-loop : tie.InvT-loop
 Inv-loop s b i₀ i-end i = (i ≤ length s) × (i-end ≡ length s)

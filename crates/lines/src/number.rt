@@ -82,7 +82,7 @@ fn negative(n: Number) -> Signed {
     Signed::Is(!((value - 1) as i32))
 }
 
-pub fn coordinate(s: &[u8]) -> Signed {
+pub fn integer(s: &[u8]) -> Signed {
     if s.len() > 0 {
         if s[0] == b'-' {
             return negative(decimal(&s[1..]));

@@ -1,11 +1,11 @@
--- `measure_cases::number::decimal` is safe and ends. Assumes nothing.
+-- `lines::number::hexadecimal` is safe and ends. Assumes nothing.
 use Prim.Native.Nat.{_≤_, _-_}
 use mathlib.Core.Path.{_≡_}
 use native.Mathlib.Omega.{arith}
 use lib.ListN.{length}
 use borrow.Author.Needs.{needs}
-use Rattle.measure_cases.proofs.number.decimal.Statement.{statement}
-use Rattle.measure_cases.proofs.number.decimal.Tie as tie
+use Rattle.lines.proofs.number.hexadecimal.Statement.{statement}
+use Rattle.lines.proofs.number.hexadecimal.Tie as tie
 
 abbrev Inv-loop : tie.InvT-loop
 Inv-loop s value₀ i₀ i-end value i = (i ≤ length s) × (i-end ≡ length s)
@@ -49,8 +49,8 @@ loop-again c = search needs
 returns-4 : tie.Need-returns-4 Inv-loop μ-loop
 returns-4 c = search needs
 
-pub decimal-spec : {M : Type 1} → statement M
-decimal-spec =
+pub hexadecimal-spec : {M : Type 1} → statement M
+hexadecimal-spec =
     tie.close
     (tie.spec
     Inv-loop
