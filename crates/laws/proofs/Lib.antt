@@ -14,6 +14,8 @@ pub mod AllFours
 pub mod Sublists
 pub mod Sort
 pub mod Binomials
+pub mod Scan
+pub mod TablePlace
 pub mod Places
 pub mod Bytes
 pub mod Owners
@@ -23,10 +25,8 @@ pub mod Best
 pub mod Promises
 pub mod Points
 pub mod Signed
-pub mod Scan
 pub mod Rest
 pub mod Counts
-pub mod TablePlace
 pub mod FourLoops
 pub mod Refusal
 pub mod Order

@@ -9,63 +9,30 @@ use borrow.Author.Tests.{eqb-true, leb-true, not-false}
 use lib.Dec.{leb, eqb}
 use lib.ListN.{length, getD}
 use Rattle.geometry.specs.declared.tetrahedron.Four.{Four}
-use Rattle.laws.specs.Laws.{choose, before-first, place}
+use Rattle.laws.specs.Laws.{choose, place}
 use Rattle.laws.specs.Check.{over}
 use Rattle.laws.specs.Unmeasured.{Ordered}
 use Rattle.laws.proofs.Scan.{neither}
-
--- ---- sums of numbers of choices
-pub choose-step : (n k : ℕ) → choose (suc n) (suc k) ≡ choose n k + choose n (suc k)
-unfolding choose
-choose-step n k = refl
-
-first-sum : (l i n k : ℕ) → l + i ≤ n → before-first l i n k + choose (n - (l + i)) (suc k) ≡ choose (n - i) (suc k)
-unfolding before-first
-first-sum zero i n k h = let e : 0 + i ≡ i = omega arith in rw e (omega arith)
-first-sum (suc l) i n k h =
-    let p = first-sum l (suc i) n k (omega arith) in
-    let e : suc l + i ≡ l + suc i = omega arith in
-    let d : n - i ≡ suc (n - suc i) = omega arith in rw (e, d, choose-step) (omega arith)
-
-sum-to : (i m n k : ℕ) → i ≤ m → m ≤ n → before-first (m - i) i n k + choose (n - m) (suc k) ≡ choose (n - i) (suc k)
-sum-to i m n k h l =
-    let e : m - i + i ≡ m = omega arith in
-    let p = first-sum (m - i) i n k (omega arith) in
-    subst (λ (x : ℕ). before-first (m - i) i n k + choose (n - x) (suc k) ≡ choose (n - i) (suc k)) e p
-
-sum-from-0 : (m n k : ℕ) → m ≤ n → before-first m 0 n k + choose (n - m) (suc k) ≡ choose n (suc k)
-sum-from-0 m n k h =
-    let e : m + 0 ≡ m = omega arith in
-    let d : n - 0 ≡ n = omega arith in
-    let p = first-sum m 0 n k (omega arith) in
-    subst (λ (x : ℕ). before-first m 0 n k + choose (n - x) (suc k) ≡ choose n (suc k)) e
-    (subst (λ (x : ℕ). before-first m 0 n k + choose (n - (m + 0)) (suc k) ≡ choose x (suc k)) d p)
-
-down : (n i k : ℕ) → i < n → choose (n - i) (suc k) ≡ choose (n - suc i) k + choose (n - suc i) (suc k)
-down n i k h = let e : n - i ≡ suc (n - suc i) = omega arith in rw e (choose-step (n - suc i) k)
+use Rattle.laws.proofs.Binomials.{before-first-between, before-first-from-0, choose-0, pascal-down}
 
 -- ---- how many stand behind a four
 abbrev pub behind : (n : ℕ) → Four → ℕ
 behind n f = choose (n - 1 - f .a) 4 + choose (n - 1 - f .b) 3 + choose (n - 1 - f .c) 2 + choose (n - 1 - f .d) 1
 
-one : (n : ℕ) → choose n 0 ≡ 1
-unfolding choose
-one n = refl
-
-place-rest :
+pub place-rest :
     (n : ℕ) (f : Four) → Ordered n f →
     place n f + (choose (n - suc (f .a)) 4 + choose (n - suc (f .b)) 3 + choose (n - suc (f .c)) 2 + choose (n - suc (f .d)) 1) + 1 ≡ choose n 4
 unfolding place
 place-rest n f u =
-    let e1 = sum-from-0 (f .a) n 3 (omega arith) in
-    let e2 = sum-to (suc (f .a)) (f .b) n 2 (omega arith) (omega arith) in
-    let e3 = sum-to (suc (f .b)) (f .c) n 1 (omega arith) (omega arith) in
-    let e4 = sum-to (suc (f .c)) (f .d) n 0 (omega arith) (omega arith) in
-    let d1 = down n (f .a) 3 (omega arith) in
-    let d2 = down n (f .b) 2 (omega arith) in
-    let d3 = down n (f .c) 1 (omega arith) in
-    let d4 = down n (f .d) 0 (omega arith) in
-    let o = one (n - suc (f .d)) in omega arith
+    let e1 = before-first-from-0 (f .a) n 3 (omega arith) in
+    let e2 = before-first-between (suc (f .a)) (f .b) n 2 (omega arith) (omega arith) in
+    let e3 = before-first-between (suc (f .b)) (f .c) n 1 (omega arith) (omega arith) in
+    let e4 = before-first-between (suc (f .c)) (f .d) n 0 (omega arith) (omega arith) in
+    let d1 = pascal-down n (f .a) 3 (omega arith) in
+    let d2 = pascal-down n (f .b) 2 (omega arith) in
+    let d3 = pascal-down n (f .c) 1 (omega arith) in
+    let d4 = pascal-down n (f .d) 0 (omega arith) in
+    let o = choose-0 (n - suc (f .d)) in omega arith
 
 less-suc : (n k : ℕ) → n - 1 - k ≡ n - suc k
 less-suc n k = omega arith

@@ -1,5 +1,6 @@
 -- The loops that choose an open face: one face after the other. Assumes nothing.
 use mathlib.Core.Path.{_≡_, refl, sym, subst, ap, _∙_}
+use Rattle.laws.specs.FaceCodes.{flip-code}
 use mathlib.Core.Bool.{true, false}
 use mathlib.Core.Logic.{_⊎_, inl, inr}
 use mathlib.Core.List.{List}
@@ -7,7 +8,7 @@ use Prim.Native.Nat.{ℕ, _+_, _*_, _<_}
 use native.Mathlib.Omega.{arith}
 use native.Mathlib.Decide.{ℕ-discrete}
 use lib.ListN.{getD}
-use Rattle.search.specs.Codes.{open-code, flip-code}
+use Rattle.search.specs.Codes.{open-code}
 use Rattle.search.specs.Tables.{Goes-on, On-rim, Behind-set}
 use Rattle.search.proofs.OpenCodes.{flip-flip}
 

@@ -12,8 +12,9 @@ use lib.IntN.{ℤ}
 use Rattle.laws.specs.Laws.{fours-in}
 use Rattle.laws.specs.Check.{job}
 use Rattle.laws.proofs.Tests.{and-true, or-true, true-or-false}
+use Rattle.laws.specs.FaceCodes.{face-code, flip-code}
 use Rattle.search.specs.Marks.{Reduced}
-use Rattle.search.specs.Codes.{face-code, flip-code, Bound, Owner, Owner-flags, open-code}
+use Rattle.search.specs.Codes.{Bound, Owner, Owner-flags, open-code}
 use Rattle.search.specs.Steps.{Context, Settles}
 use Rattle.search.specs.Tables.{Behind-set, Goes-on, On-rim, Rim}
 use Rattle.search.proofs.Context.{context-count, settles-hopeless, settles-open}

@@ -18,10 +18,11 @@ use Rattle.laws.proofs.Triangles.{has-true, has-of}
 use Rattle.laws.proofs.Conditions.{accepted}
 use Rattle.laws.proofs.FourOrder.{four-before-asym}
 use Rattle.laws.proofs.Sorted.{Well-formed, Increasing, increasing, law-1-well-formed}
+use Rattle.laws.specs.FaceCodes.{face-code, Proper}
 use Rattle.search.specs.Part.{shares, compatible}
 use Rattle.search.specs.Marks.{nth}
-use Rattle.search.specs.Codes.{face-code, Owns}
-use Rattle.search.specs.Steps.{Context, Proper}
+use Rattle.search.specs.Codes.{Owns}
+use Rattle.search.specs.Steps.{Context}
 use Rattle.search.proofs.Pairs.{shares-false-of, compatible-true}
 use Rattle.search.proofs.Numbers.{nth-member, nth-before}
 use Rattle.search.proofs.FaceTable.{has-owns, owns-has}

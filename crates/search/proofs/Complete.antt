@@ -17,8 +17,9 @@ use Rattle.laws.proofs.FourOrder.{four-before-asym}
 use Rattle.laws.proofs.Sorted.{Sorted, start, next, sorted-law-1}
 use Rattle.laws.proofs.Sort.{Distinct, nil, new}
 use Rattle.laws.proofs.Owners.{face-owner}
+use Rattle.laws.proofs.ProperFaces.{distinct-corners, turned-distinct-corners}
 use Rattle.search.specs.Part.{Together}
-use Rattle.search.proofs.Faces.{distinct-corners, faces-once, turned-distinct-corners}
+use Rattle.search.proofs.Faces.{faces-once}
 use Rattle.search.proofs.Candidates.{Candidate, law-2-of, law-3-of}
 use Rattle.search.proofs.Pairs.{compatible-true, law-5-of}
 use Rattle.search.proofs.Coverage.{law-6-of, law-7-of}

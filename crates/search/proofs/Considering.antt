@@ -17,7 +17,7 @@ use Rattle.geometry.specs.declared.tetrahedron.Four.{Four}
 use Rattle.laws.specs.Laws.{tri, place, entry, quality}
 use Rattle.laws.specs.Check.{job}
 use Rattle.laws.proofs.Tests.{contradiction}
-use Rattle.search.specs.Codes.{face-code}
+use Rattle.laws.specs.FaceCodes.{face-code}
 use Rattle.search.specs.Part.{candidate}
 use Rattle.search.specs.Filing.{put-four, put-faces, Considered, filed}
 

@@ -4,72 +4,21 @@ use mathlib.Core.Bool.{Bool, true, false, _||_, cond}
 use mathlib.Core.List.{List, [], _∷_}
 use Prim.Native.Nat.{ℕ, zero, suc, _≤_, _<_}
 use native.Mathlib.Omega.{arith}
-use borrow.Author.Tests.{eqb-false, leb-false}
-use lib.Dec.{leb, eqb}
 use lib.ListN.{length, getD}
 use Rattle.geometry.specs.Space.{V3, turned, four, D, above, zero-z}
 use Rattle.geometry.specs.declared.tetrahedron.Four.{Four}
 use Rattle.laws.specs.Laws.{Tri, tri, faces, all-faces, has}
-use Rattle.laws.specs.Check.{tri-bad, any-tri-bad}
 use Rattle.laws.specs.Members.{Any, here, there}
-use Rattle.laws.proofs.Tests.{or-false}
 use Rattle.laws.proofs.Lists.{Each, none, more, find, any-of-member, each-at-member}
 use Rattle.laws.proofs.Triangles.{Has, has-true, has-of}
 use Rattle.laws.proofs.Sorted.{Well-formed, increasing}
 use Rattle.laws.proofs.Owners.{face-owner, owned-face}
+use Rattle.laws.specs.FaceCodes.{face-code, Proper}
+use Rattle.laws.proofs.ProperFaces.{faces-proper}
 use Rattle.search.specs.Marks.{nth, marked}
-use Rattle.search.specs.Codes.{face-code, Face-table, Owns, Owner}
-use Rattle.search.specs.Steps.{Proper}
-use Rattle.search.proofs.Faces.{Distinct-corners, distinct-corners, turned-distinct-corners}
+use Rattle.search.specs.Codes.{Face-table, Owns, Owner}
 use Rattle.search.proofs.Numbers.{marked-number, nth-member, number-marked}
-use Rattle.search.proofs.FaceCodes.{face-code-injective, face-code-same}
-
--- ---- faces and boundary triangles have three points below 16
-record Small-corners (n : ℕ) (f : Four) : Type 0 where
-  a : f .a < n
-  b : f .b < n
-  c : f .c < n
-  d : f .d < n
-
-small-corners : (n : ℕ) (f : Four) → Well-formed n f → Small-corners n f
-small-corners n f g = let u = increasing n f g in record { a = omega arith; b = omega arith; c = omega arith; d = omega arith }
-
-turned-small-corners : (n : ℕ) (ps : List V3) (f : Four) → Small-corners n f → Small-corners n (turned ps f)
-unfolding turned four
-turned-small-corners n ps f s = go (above (D ps f) zero-z)
-  where
-    go : (b : Bool) → Small-corners n (cond b f (four (f .b) (f .a) (f .c) (f .d)))
-    go true = s
-    go false = record { a = s .b; b = s .a; c = s .c; d = s .d }
-
-four-proper : (n : ℕ) (f : Four) → n ≤ 16 → Distinct-corners f → Small-corners n f → Each Proper (faces f)
-unfolding faces tri
-four-proper n f h u s =
-    more (record { ab = u .ac; ac = u .ab; bc = λ e. u .bc (sym e); a-small = omega arith; b-small = omega arith; c-small = omega arith })
-    (more (record { ab = u .ab; ac = u .ad; bc = u .bd; a-small = omega arith; b-small = omega arith; c-small = omega arith })
-    (more (record { ab = u .ad; ac = u .ac; bc = λ e. u .cd (sym e); a-small = omega arith; b-small = omega arith; c-small = omega arith })
-    (more (record { ab = u .bc; ac = u .bd; bc = u .cd; a-small = omega arith; b-small = omega arith; c-small = omega arith }) none)))
-
-pub faces-proper : (n : ℕ) (ps : List V3) (f : Four) → n ≤ 16 → Well-formed n f → Each Proper (faces (turned ps f))
-faces-proper n ps f h g = four-proper n (turned ps f) h (turned-distinct-corners ps f (distinct-corners n f g)) (turned-small-corners n ps f (small-corners n f g))
-
-tri-proper : (n : ℕ) (t : Tri) → n ≤ 16 → tri-bad n t ≡ false → Proper t
-unfolding tri-bad
-tri-proper n t h b =
-    let p = or-false (leb n (t .a) || (leb n (t .b) || leb n (t .c))) (eqb (t .a) (t .b) || (eqb (t .b) (t .c) || eqb (t .a) (t .c))) b in
-    let q = or-false (leb n (t .a)) (leb n (t .b) || leb n (t .c)) (p .0) in
-    let r = or-false (leb n (t .b)) (leb n (t .c)) (q .1) in
-    let v = or-false (eqb (t .a) (t .b)) (eqb (t .b) (t .c) || eqb (t .a) (t .c)) (p .1) in
-    let w = or-false (eqb (t .b) (t .c)) (eqb (t .a) (t .c)) (v .1) in
-    let x = leb-false n (t .a) (q .0) in
-    let y = leb-false n (t .b) (r .0) in
-    let z = leb-false n (t .c) (r .1) in
-    record { ab = eqb-false (t .a) (t .b) (v .0); ac = eqb-false (t .a) (t .c) (w .1); bc = eqb-false (t .b) (t .c) (w .0); a-small = omega arith; b-small = omega arith; c-small = omega arith }
-
-pub boundary-proper : (n : ℕ) (T : List Tri) → n ≤ 16 → any-tri-bad n T ≡ false → Each Proper T
-unfolding any-tri-bad
-boundary-proper n [] h b = none
-boundary-proper n (t ∷ T) h b = let p = or-false (tri-bad n t) (any-tri-bad n T) b in more (tri-proper n t h (p .0)) (boundary-proper n T h (p .1))
+use Rattle.laws.proofs.FaceCodes.{face-code-injective, face-code-same}
 
 -- ---- standing in a list, by number
 pub has-code : {x : Tri} {ts : List Tri} → Proper x → Each Proper ts → Any (λ s. face-code x ≡ face-code s) ts → Has x ts

@@ -16,8 +16,6 @@ pub mod Compact
 pub mod Setting
 pub mod Reduction
 pub mod FirstByNumber
-pub mod AfterSetting
-pub mod FaceCodes
 pub mod FaceTable
 pub mod Flags
 pub mod RimLoops
@@ -53,7 +51,6 @@ pub mod Sides
 pub mod RunsThrough
 pub mod NotApart
 pub mod KeptEdges
-pub mod KeptEdgeCase
 pub mod TermThree
 pub mod Written
 pub mod CopiedInOrder

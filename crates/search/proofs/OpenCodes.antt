@@ -19,17 +19,19 @@ use Rattle.laws.proofs.Triangles.{back, reversed-back, Same, turn-0, turn-1, tu
 use Rattle.laws.proofs.Sorted.{Well-formed}
 use Rattle.laws.proofs.Owners.{face-owner}
 use Rattle.laws.proofs.OpenFaces.{Open, bound, inner}
+use Rattle.laws.specs.FaceCodes.{face-code, flip-code, Proper}
+use Rattle.laws.proofs.ProperFaces.{faces-proper}
 use Rattle.search.specs.Part.{open-face}
 use Rattle.search.specs.Marks.{nth, marked, Fills}
-use Rattle.search.specs.Codes.{face-code, flip-code, Face-table, Owns, Owner, Owner-flags, Bound-flags, open-code}
-use Rattle.search.specs.Steps.{Proper, Open-at}
+use Rattle.search.specs.Codes.{Face-table, Owns, Owner, Owner-flags, Bound-flags, open-code}
+use Rattle.search.specs.Steps.{Open-at}
 use Rattle.search.proofs.Extensions.{Useless}
 use Rattle.search.proofs.NewOwners.{open-face-false-of, open-face-of}
 use Rattle.search.proofs.Numbers.{marked-in, nth-member}
 use Rattle.search.proofs.Start.{Live}
 use Rattle.search.proofs.Reduction.{none-face, useless-unmatched}
-use Rattle.search.proofs.FaceCodes.{face-code-back, face-code-below, proper-turn}
-use Rattle.search.proofs.FaceTable.{faces-proper, has-owner, has-owns, owner-has}
+use Rattle.laws.proofs.FaceCodes.{face-code-back, face-code-below, proper-turn}
+use Rattle.search.proofs.FaceTable.{has-owner, has-owns, owner-has}
 use Rattle.search.proofs.BoundaryFlags.{proper-back, same-flag, bound-flag-is}
 
 -- ---- the number of the reverse

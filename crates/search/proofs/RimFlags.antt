@@ -19,8 +19,9 @@ use Rattle.laws.proofs.Lists.{each-at-member}
 use Rattle.laws.proofs.Conditions.{accepted}
 use Rattle.laws.proofs.Refusal.{points-few, triangles-few, all-within}
 use Rattle.laws.proofs.Sorted.{law-1-well-formed, increasing}
+use Rattle.laws.specs.FaceCodes.{face-code}
 use Rattle.search.specs.Marks.{nth}
-use Rattle.search.specs.Codes.{face-code, Bound, Bound-flags}
+use Rattle.search.specs.Codes.{Bound, Bound-flags}
 use Rattle.search.specs.Steps.{Context}
 use Rattle.search.specs.Tables.{All-below, Rim, Named, Below-16}
 use Rattle.search.proofs.Numbers.{nth-member}

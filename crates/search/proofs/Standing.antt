@@ -20,12 +20,12 @@ use Rattle.laws.proofs.Lists.{Each}
 use Rattle.laws.proofs.Conditions.{accepted}
 use Rattle.laws.proofs.Scan.{Step}
 use Rattle.laws.proofs.Sorted.{Well-formed}
+use Rattle.laws.specs.FaceCodes.{face-code, flip-code, Proper}
+use Rattle.laws.proofs.ProperFaces.{boundary-proper, faces-proper}
 use Rattle.search.specs.Pierce.{pierced}
 use Rattle.search.specs.Part.{reverses, candidate}
-use Rattle.search.specs.Codes.{face-code, flip-code, Bound-flags}
-use Rattle.search.specs.Steps.{Proper}
+use Rattle.search.specs.Codes.{Bound-flags}
 use Rattle.search.specs.Tables.{All-below, Stage}
-use Rattle.search.proofs.FaceTable.{boundary-proper, faces-proper}
 use Rattle.search.proofs.BoundaryFlags.{reverses-by-flags}
 use Rattle.search.proofs.RimFlags.{accepted-points-few, accepted-kept-present}
 

@@ -7,23 +7,10 @@ use lib.Dec.{ltb}
 use lib.ListN.{length, getD}
 use Rattle.geometry.specs.Space.{V3, turned}
 use Rattle.geometry.specs.declared.tetrahedron.Four.{Four}
+use Rattle.laws.specs.FaceCodes.{face-code, flip-code}
 use Rattle.laws.specs.Laws.{Tri, tri, faces}
 use Rattle.laws.specs.Members.{Any}
 use Rattle.search.specs.Marks.{nth}
-
-unfoldable pub least-turn : Tri → Tri
-least-turn t =
-    cond (ltb (t .a) (t .b) && ltb (t .a) (t .c)) t (cond (ltb (t .b) (t .c)) (tri (t .b) (t .c) (t .a)) (tri (t .c) (t .a) (t .b)))
-
-unfoldable pub digits : Tri → ℕ
-digits t = t .a * 256 + t .b * 16 + t .c
-
-unfoldable pub face-code : Tri → ℕ
-face-code t = digits (least-turn t)
-
--- the number of the reverse
-unfoldable pub flip-code : ℕ → ℕ
-flip-code c = c / 256 * 256 + c % 16 * 16 + c / 16 % 16
 
 -- the numbers of the outward faces of each candidate, four for each
 pub record Face-table (ps : List V3) (cs : List Four) (table : List ℕ) : Type 0 where

@@ -9,9 +9,10 @@ use Rattle.geometry.specs.declared.tetrahedron.Four.{Four}
 use Rattle.laws.specs.Laws.{Job, Tri, all-faces, fours-in}
 use Rattle.laws.specs.Check.{job, job-refusal}
 use Rattle.laws.specs.Members.{In}
+use Rattle.laws.specs.FaceCodes.{face-code, flip-code, Proper}
 use Rattle.search.specs.Part.{open-face, Fit}
 use Rattle.search.specs.Marks.{Pool, marked, Fills, Reduced}
-use Rattle.search.specs.Codes.{face-code, flip-code, Face-table, Owns, Bound-flags, open-code}
+use Rattle.search.specs.Codes.{Face-table, Owns, Bound-flags, open-code}
 
 -- a job that is not refused, a pool of its candidates as bytes, the numbers of their faces, and the boundary as flags by face number
 pub record Context (ps : List ℤ) (ts es : List ℕ) (qs : List ℤ) (fours codes bound : List ℕ) (m : ℕ) : Type 0 where
@@ -26,15 +27,6 @@ pub record Context (ps : List ℤ) (ts es : List ℕ) (qs : List ℤ) (fours cod
 -- marks from which a search may go on
 pub record Ready (j : Job) (cs : List Four) (ms : List ℕ) : Type 0 where
   pub fit : Fit j (marked 2 cs ms) (λ f. In f (marked 1 cs ms))
-
--- a triangle of three points below 16
-pub record Proper (t : Tri) : Type 0 where
-  pub ab : t .a ≡ t .b → ⊥
-  pub ac : t .a ≡ t .c → ⊥
-  pub bc : t .b ≡ t .c → ⊥
-  pub a-small : t .a < 16
-  pub b-small : t .b < 16
-  pub c-small : t .c < 16
 
 -- an open face with the number c
 pub record Open-at (j : Job) (S : List Four) (c : ℕ) : Type 0 where

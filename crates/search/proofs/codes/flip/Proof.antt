@@ -1,8 +1,8 @@
 -- `search::codes::flip` meets its contract. Assumes nothing.
 use mathlib.Core.Path.{refl}
+use Rattle.laws.specs.FaceCodes.{flip-code}
 use native.Mathlib.Omega.{arith}
 use borrow.Author.Needs.{needs}
-use Rattle.search.specs.Codes.{flip-code}
 use Rattle.search.proofs.codes.flip.Statement.{statement}
 use Rattle.search.proofs.codes.flip.Tie as tie
 

@@ -1,5 +1,6 @@
 -- `search::thin::is_open` meets its contract. Assumes nothing.
 use mathlib.Core.Path.{_≡_, refl}
+use Rattle.laws.specs.FaceCodes.{flip-code}
 use mathlib.Core.Bool.{false, not}
 use mathlib.Core.List.{List}
 use Prim.Native.Nat.{ℕ, _≤_, _<_}
@@ -14,7 +15,7 @@ use Rattle.search.proofs.thin.is_open.Tie as tie
 use Rattle.search.proofs.thin.is_open.Reads as reads
 use Rattle.search.proofs.thin.is_open.Lts as lts
 use Rattle.search.proofs.codes.flip.Reads as flip-reads
-use Rattle.search.specs.Codes.{open-code, flip-code}
+use Rattle.search.specs.Codes.{open-code}
 
 zero-test : (n : ℕ) → eqb n 0 ≡ not (ltb 0 n)
 zero-test n = go (decLt 0 n)
