@@ -1,6 +1,6 @@
 // Answers job texts through the library and compares with the expected printouts.
-//   answer JOB.txt ..      each JOB.txt has JOB.out beside it; jobs whose text is not of the form are passed over and counted
-// Ends in 'N passed, M failed'.
+//   answer [-p] JOB.txt ..    each JOB.txt has JOB.out beside it; jobs whose text is not of the form are passed over and counted
+// Ends in 'N passed, M failed'; with -p it prints the printouts and nothing else.
 #include "job.h"
 
 #include <time.h>
@@ -46,7 +46,8 @@ int main(int argc, char **argv) {
     int passed = 0, failed = 0, passed_over = 0;
     double slowest = 0;
     const char *slowest_name = "";
-    for (int i = 1; i < argc; i++) {
+    int print = argc > 1 && strcmp(argv[1], "-p") == 0;
+    for (int i = 1 + print; i < argc; i++) {
         char name[4096];
         snprintf(name, sizeof name, "%.*s.out", (int)strlen(argv[i]) - 4, argv[i]);
         slurp(name, expected);
@@ -63,6 +64,10 @@ int main(int argc, char **argv) {
         double s = (double)(t1.tv_sec - t0.tv_sec) + 1e-9 * (double)(t1.tv_nsec - t0.tv_nsec);
         if (s > slowest) slowest = s, slowest_name = argv[i];
         print_answer(r, answer);
+        if (print) {
+            fputs(printed, stdout);
+            continue;
+        }
         if (strcmp(printed, expected) == 0) {
             passed++;
         } else {
@@ -70,6 +75,7 @@ int main(int argc, char **argv) {
             printf("%s: expected %.20s.. got %.20s..\n", argv[i], expected, printed);
         }
     }
+    if (print) return 0;
     printf("slowest: %.6f s, %s; %d texts left to the text form\n", slowest, slowest_name, passed_over);
     printf("%d passed, %d failed\n", passed, failed);
     return failed != 0;
