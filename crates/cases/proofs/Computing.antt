@@ -1,0 +1,47 @@
+-- What the computed test unfolds, one name for each subject: to unfold it is to unfold all that its line names. Assumes nothing.
+use Prim.Native.Nat.{ℕ}
+use Rattle.geometry.specs.Space.{z, of, plus, minus, times, above, equal, v3, less, cross, dot, is-zero, same-place, det, points-in, point, four, D, solid, turned, inside, corners, all-below, each-below, parts-them, any-parts, normal, normals, edges-of, crosses, all-crosses, directions, apart}
+use Rattle.geometry.specs.Range.{size, far, any-far}
+use Rattle.geometry.specs.Measure.{measure-refusal, magnitude, D-of, square, S-of, double, shape-number, clamped, millionths, is-flat}
+use Rattle.laws.specs.Laws.{tri, choose, before-first, place, entry, quality, rising, four-before, law-1, law-2, none-inside, law-3, faces, all-faces, same-tri, reversed, has, once, all-in, matched, law-4, apart-all, law-5, corner-of, is-corner, corners-from, law-6, holds-edge, all-kept, law-7, broken, lawful, worst-from, worst, list-before, fours-in}
+use Rattle.laws.specs.Fours.{from, rest, with-each, all-fours}
+use Rattle.laws.specs.Check.{place-taken, two-alike, tris-in, edges-in, tri-bad, any-tri-bad, tri-taken, tris-alike, directed, how-often, unmatched, edge-bad, entry-bad, any-entry-bad, unmeasured, over, solid-unmeasured, job, job-refusal}
+use Rattle.laws.specs.Lists.{job-of, refusal-of}
+use Rattle.laws.specs.Judge.{judged}
+use Rattle.cases.specs.Cases.{count-in, tetrahedron-of, fours-of}
+
+unfoldable pub vectors : ℕ
+unfolding z of plus minus times above equal v3 less cross dot is-zero same-place det points-in point size far any-far
+vectors = 0
+
+unfoldable pub tetrahedra : ℕ
+unfolding four D solid turned inside corners all-below each-below parts-them any-parts normal normals edges-of crosses all-crosses directions apart
+tetrahedra = 0
+
+unfoldable pub doubles : ℕ
+unfolding lib.Ieee.span lib.Ieee.climb lib.Ieee.size lib.Ieee.odd lib.Ieee.units lib.Ieee.round lib.Ieee.mul lib.Ieee.div lib.Ieee.ofInt lib.Ieee.toUnsigned lib.Count.trailingZeros
+doubles = 0
+
+unfoldable pub measuring : ℕ
+unfolding measure-refusal magnitude D-of square S-of double shape-number clamped millionths is-flat
+measuring = 0
+
+unfoldable pub refusals : ℕ
+unfolding place-taken two-alike tris-in edges-in tri-bad any-tri-bad tri-taken tris-alike directed how-often unmatched edge-bad entry-bad any-entry-bad unmeasured over solid-unmeasured job job-refusal job-of refusal-of
+refusals = 0
+
+unfoldable pub table : ℕ
+unfolding choose before-first place entry quality from rest with-each all-fours fours-in
+table = 0
+
+unfoldable pub laws-1-to-3 : ℕ
+unfolding rising four-before law-1 law-2 none-inside law-3
+laws-1-to-3 = 0
+
+unfoldable pub laws-4-to-7 : ℕ
+unfolding tri faces all-faces same-tri reversed has once all-in matched law-4 apart-all law-5 corner-of is-corner corners-from law-6 holds-edge all-kept law-7
+laws-4-to-7 = 0
+
+unfoldable pub fillings : ℕ
+unfolding broken lawful worst-from worst list-before judged count-in tetrahedron-of fours-of
+fillings = 0

@@ -1,0 +1,162 @@
+-- THE STARRED CAVITIES (document 01, "Cavities to try"): one table, and one statement that covers it. Assumes nothing: these are definitions.
+use mathlib.Core.Path.{_≡_}
+use mathlib.Core.Bool.{true, cond}
+use mathlib.Core.List.{List, [], _∷_, map}
+use mathlib.Core.Option.{none, some}
+use Prim.Native.Nat.{ℕ, _+_, _<_}
+use lib.IntN.{ℤ, pos, negsuc}
+use Rattle.geometry.specs.Space.{four, points-in, turned}
+use Rattle.geometry.specs.Measure.{D-of, S-of, double, shape-number, millionths, sizes, measured}
+use Rattle.geometry.specs.declared.tetrahedron.Four.{Four}
+use Rattle.geometry.specs.declared.measure.Measured.{Measured}
+use Rattle.geometry.specs.declared.measure.Measurement.the-variants.{Shape}
+use Rattle.laws.specs.Laws.{Job, Tri, entry, quality, faces, has, lawful, worst, list-before}
+use Rattle.laws.specs.Choice.{Choice}
+use Rattle.laws.specs.Judge.{judged}
+use Rattle.laws.specs.Lists.{Lists, job-of, refusal-of}
+use Rattle.laws.specs.Members.{Any}
+
+-- ---- a tetrahedron of a filling: its D, its quality, and how many of its outward faces are boundary triangles
+pub record Tetrahedron : Type 0 where
+  pub corners : Four
+  pub volume : ℕ
+  pub quality : ℕ
+  pub outer : ℕ
+
+unfoldable pub count-in : (faces boundary : List Tri) → ℕ
+count-in [] bs = 0
+count-in (t ∷ ts) bs = cond (has t bs) 1 0 + count-in ts bs
+
+unfoldable pub tetrahedron-of : Job → Four → Tetrahedron
+tetrahedron-of j f =
+    record {
+      corners = f;
+      volume = D-of (j .points) f;
+      quality = quality (entry j f);
+      outer = count-in (faces (turned (j .points) f)) (j .triangles);
+    }
+
+unfoldable pub fours-of : List Tetrahedron → List Four
+fours-of ts = map (λ (t : Tetrahedron). t .corners) ts
+
+-- ---- what a row says
+pub data Case : Type 0 where
+  -- the filling handed out, with its worst quality
+  found : Lists → (filling : List Tetrahedron) → (least : ℕ) → Case
+  -- two lawful fillings of one worst quality, the first of which comes first
+  tied : Lists → (first later : List Four) → (least : ℕ) → Case
+  -- no lawful filling: 15
+  nothing : Lists → Case
+  -- a number from 2 to 13
+  refused : Lists → (number : ℕ) → Case
+  -- the lowest law that a list breaks
+  breaks : Lists → (list : List ℕ) → (law : ℕ) → Case
+  -- D, S and the millionths of four points
+  measures : (coordinates : List ℤ) → (d s q : ℕ) → Case
+
+pub record Found-best (l : Lists) (ts : List Tetrahedron) (least : ℕ) : Type 0 where
+  pub accepted : refusal-of l ≡ 0
+  pub chosen : Choice (job-of l) (some (fours-of ts))
+  pub worth : worst (job-of l) (fours-of ts) ≡ least
+  pub each : map (tetrahedron-of (job-of l)) (fours-of ts) ≡ ts
+
+pub record Tied (l : Lists) (fs gs : List Four) (least : ℕ) : Type 0 where
+  pub accepted : refusal-of l ≡ 0
+  pub first-lawful : lawful (job-of l) fs ≡ true
+  pub later-lawful : lawful (job-of l) gs ≡ true
+  pub first-worth : worst (job-of l) fs ≡ least
+  pub later-worth : worst (job-of l) gs ≡ least
+  pub order : list-before fs gs ≡ true
+
+pub record None-lawful (l : Lists) : Type 0 where
+  pub accepted : refusal-of l ≡ 0
+  pub chosen : Choice (job-of l) none
+
+pub record Refused-as (l : Lists) (n : ℕ) : Type 0 where
+  pub above : 0 < n
+  pub number : refusal-of l ≡ n
+
+pub record Breaks-law (l : Lists) (list : List ℕ) (n : ℕ) : Type 0 where
+  pub accepted : refusal-of l ≡ 0
+  pub above : 0 < n
+  pub lowest : judged (job-of l) list ≡ n
+
+-- the measure of a solid four of this D and S
+unfoldable pub solid-measure : (d s : ℕ) → Measured
+solid-measure d s =
+    let q = shape-number (double d) (double s) in record { answer = Shape q; sizes = sizes (double d) (double s) q }
+
+pub record Measures-as (cs : List ℤ) (d s q : ℕ) : Type 0 where
+  pub volume : D-of (points-in cs) (four 0 1 2 3) ≡ d
+  pub squares : S-of (points-in cs) (four 0 1 2 3) ≡ s
+  pub whole : measured cs ≡ solid-measure d s
+  pub value : millionths (shape-number (double d) (double s)) ≡ q
+
+unfoldable pub Holds : Case → Type 0
+Holds (found l ts w) = Found-best l ts w
+Holds (tied l fs gs w) = Tied l fs gs w
+Holds (nothing l) = None-lawful l
+Holds (refused l n) = Refused-as l n
+Holds (breaks l list n) = Breaks-law l list n
+Holds (measures cs d s q) = Measures-as cs d s q
+
+-- ---- case A
+abbrev pub points-A : List ℤ
+points-A = pos 0 ∷ pos 0 ∷ pos 0 ∷ pos 1 ∷ pos 0 ∷ pos 0 ∷ pos 0 ∷ pos 1 ∷ pos 0 ∷ pos 0 ∷ pos 0 ∷ pos 1 ∷ []
+
+-- ---- case B, with the kept edges and the entries of 0123, 0124 and 0134 open
+abbrev pub points-B : List ℤ
+points-B = pos 0 ∷ pos 0 ∷ pos 0 ∷ pos 6 ∷ pos 0 ∷ pos 0 ∷ pos 0 ∷ pos 6 ∷ pos 0 ∷ pos 1 ∷ pos 1 ∷ pos 5 ∷ pos 1 ∷ pos 1 ∷ negsuc 4 ∷ []
+
+abbrev pub triangles-B : List ℕ
+triangles-B = 0 ∷ 1 ∷ 3 ∷ 1 ∷ 2 ∷ 3 ∷ 2 ∷ 0 ∷ 3 ∷ 1 ∷ 0 ∷ 4 ∷ 2 ∷ 1 ∷ 4 ∷ 0 ∷ 2 ∷ 4 ∷ []
+
+abbrev pub B-with : (kept : List ℕ) → (q0123 q0124 q0134 : ℤ) → Lists
+B-with es p q r =
+    record { points = points-B; triangles = triangles-B; kept = es; table = p ∷ q ∷ r ∷ pos 450000 ∷ pos 460000 ∷ [] }
+
+abbrev pub B : Lists
+B = B-with [] (pos 500000) (pos 400000) (pos 450000)
+
+abbrev pub tetrahedron : (a b c d volume quality outer : ℕ) → Tetrahedron
+tetrahedron a b c d v q o = record { corners = four a b c d; volume = v; quality = q; outer = o }
+
+-- its two fillings
+abbrev pub two : (q0124 : ℕ) → List Tetrahedron
+two q = tetrahedron 0 1 2 3 180 500000 3 ∷ tetrahedron 0 1 2 4 180 q 3 ∷ []
+
+abbrev pub three : (q0134 : ℕ) → List Tetrahedron
+three q = tetrahedron 0 1 3 4 60 q 2 ∷ tetrahedron 0 2 3 4 60 450000 2 ∷ tetrahedron 1 2 3 4 240 460000 2 ∷ []
+
+-- ---- a point inside the boundary of the first four, every entry 1
+abbrev pub inner-point : Lists
+inner-point =
+    record {
+      points = pos 0 ∷ pos 0 ∷ pos 0 ∷ pos 4 ∷ pos 0 ∷ pos 0 ∷ pos 0 ∷ pos 4 ∷ pos 0 ∷ pos 0 ∷ pos 0 ∷ pos 4 ∷ pos 1 ∷ pos 1 ∷ pos 1 ∷ [];
+      triangles = 0 ∷ 2 ∷ 1 ∷ 0 ∷ 1 ∷ 3 ∷ 0 ∷ 3 ∷ 2 ∷ 1 ∷ 2 ∷ 3 ∷ [];
+      kept = [];
+      table = pos 1 ∷ pos 1 ∷ pos 1 ∷ pos 1 ∷ pos 1 ∷ [];
+    }
+
+abbrev pub around : List Tetrahedron
+around = tetrahedron 0 1 2 4 16 1 1 ∷ tetrahedron 0 1 3 4 16 1 1 ∷ tetrahedron 0 2 3 4 16 1 1 ∷ tetrahedron 1 2 3 4 16 1 1 ∷ []
+
+-- ---- THE TABLE, in document 01's order
+abbrev pub cases : List Case
+cases =
+    measures points-A 1 9 592592
+    ∷ found B (three 450000) 450000
+    ∷ found (B-with [] (pos 500000) (pos 400000) (pos 400000)) (two 400000) 400000
+    ∷ tied (B-with [] (pos 500000) (pos 400000) (pos 400000)) (fours-of (two 400000)) (fours-of (three 400000)) 400000
+    ∷ found (B-with [] (pos 500000) (pos 500000) (pos 450000)) (two 500000) 500000
+    ∷ found (B-with (3 ∷ 4 ∷ []) (pos 500000) (pos 500000) (pos 450000)) (three 450000) 450000
+    ∷ nothing (B-with [] (pos 500000) (pos 0) (pos 0))
+    ∷ refused (B-with [] (negsuc 0) (pos 400000) (pos 450000)) 13
+    ∷ found inner-point around 1
+    ∷ breaks B (0 ∷ 1 ∷ 2 ∷ 3 ∷ []) 4
+    ∷ breaks B [] 4
+    ∷ []
+
+-- THE STATEMENT: what each row says holds
+unfoldable pub Cases-hold : Type 0
+Cases-hold = (c : Case) → Any (λ (d : Case). c ≡ d) cases → Holds c
