@@ -47,7 +47,7 @@ fn raise_all_faces(points: &[i32], list: &[u8], flags: &mut [u8; 4096]) -> bool
 }
 
 // Raises the flags of the boundary triangles, from the last to the first.
-fn raise_boundary(triangles: &[u8], flags: &mut [u8; 4096])
+pub fn raise_boundary(triangles: &[u8], flags: &mut [u8; 4096])
     requires { ⌜ All-within 16 (now triangles) ⌝ }
     ensures { λ _. ⌜ now (flags .exit) ≡ flag-all (triangles-in (now (triangles .entry))) (now (flags .entry)) ⌝ }
 {

@@ -17,7 +17,7 @@ ghost use Rattle.laws.specs.Unmeasured.{Ordered, Tabled};
 ghost use Rattle.laws.specs.ListedFours.{fours-listed};
 
 // The quality of f by the table, 0 for none.
-fn quality_of(points: &[i32], table: &[i32], f: Four) -> u32
+pub fn quality_of(points: &[i32], table: &[i32], f: Four) -> u32
     requires { ⌜ Tabled (now points) (now table) × Ordered (length (points-in (now points))) f ⌝ }
     ensures { λ r. ⌜ r ≡ quality (entry (job (now (points .entry)) [] [] (now (table .entry))) f) ⌝ }
 {

@@ -1,0 +1,9 @@
+pub mod Writing
+pub mod Decimals
+pub mod Lines
+pub mod Lengths
+pub mod BoundaryFaces
+pub mod Tetrahedra
+pub mod Filling
+pub mod Accepted
+pub mod Examples

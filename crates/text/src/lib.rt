@@ -1,0 +1,2 @@
+// Job text and printout.
+pub mod print;
