@@ -8,7 +8,8 @@ use Rattle.laws.specs.Fours.{from, rest, with-each, all-fours}
 use Rattle.laws.specs.Check.{place-taken, two-alike, tris-in, edges-in, tri-bad, any-tri-bad, tri-taken, tris-alike, directed, how-often, unmatched, edge-bad, entry-bad, any-entry-bad, unmeasured, over, solid-unmeasured, job, job-refusal}
 use Rattle.laws.specs.Lists.{job-of, refusal-of}
 use Rattle.laws.specs.Judge.{judged}
-use Rattle.cases.specs.Cases.{count-in, tetrahedron-of, fours-of}
+use Rattle.text.specs.Print.{count-in, boundary-faces}
+use Rattle.cases.specs.Cases.{tetrahedron-of, fours-of}
 
 unfoldable pub vectors : ℕ
 unfolding z of plus minus times above equal v3 less cross dot is-zero same-place det points-in point size far any-far
@@ -43,5 +44,5 @@ unfolding tri faces all-faces same-tri reversed has once all-in matched law-4 ap
 laws-4-to-7 = 0
 
 unfoldable pub fillings : ℕ
-unfolding broken lawful worst-from worst list-before judged count-in tetrahedron-of fours-of
+unfolding broken lawful worst-from worst list-before judged count-in boundary-faces tetrahedron-of fours-of
 fillings = 0

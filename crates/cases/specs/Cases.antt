@@ -1,20 +1,21 @@
 -- THE STARRED CAVITIES (document 01, "Cavities to try"): one table, and one statement that covers it. Assumes nothing: these are definitions.
 use mathlib.Core.Path.{_≡_}
-use mathlib.Core.Bool.{true, cond}
+use mathlib.Core.Bool.{true}
 use mathlib.Core.List.{List, [], _∷_, map}
 use mathlib.Core.Option.{none, some}
-use Prim.Native.Nat.{ℕ, _+_, _<_}
+use Prim.Native.Nat.{ℕ, _<_}
 use lib.IntN.{ℤ, pos, negsuc}
-use Rattle.geometry.specs.Space.{four, points-in, turned}
+use Rattle.geometry.specs.Space.{four, points-in}
 use Rattle.geometry.specs.Measure.{D-of, S-of, double, shape-number, millionths, sizes, measured}
 use Rattle.geometry.specs.declared.tetrahedron.Four.{Four}
 use Rattle.geometry.specs.declared.measure.Measured.{Measured}
 use Rattle.geometry.specs.declared.measure.Measurement.the-variants.{Shape}
-use Rattle.laws.specs.Laws.{Job, Tri, entry, quality, faces, has, lawful, worst, list-before}
+use Rattle.laws.specs.Laws.{Job, entry, quality, lawful, worst, list-before}
 use Rattle.laws.specs.Choice.{Choice}
 use Rattle.laws.specs.Judge.{judged}
 use Rattle.laws.specs.Lists.{Lists, job-of, refusal-of}
 use Rattle.laws.specs.Members.{Any}
+use Rattle.text.specs.Print.{boundary-faces}
 
 -- ---- a tetrahedron of a filling: its D, its quality, and how many of its outward faces are boundary triangles
 pub record Tetrahedron : Type 0 where
@@ -23,17 +24,13 @@ pub record Tetrahedron : Type 0 where
   pub quality : ℕ
   pub outer : ℕ
 
-unfoldable pub count-in : (faces boundary : List Tri) → ℕ
-count-in [] bs = 0
-count-in (t ∷ ts) bs = cond (has t bs) 1 0 + count-in ts bs
-
 unfoldable pub tetrahedron-of : Job → Four → Tetrahedron
 tetrahedron-of j f =
     record {
       corners = f;
       volume = D-of (j .points) f;
       quality = quality (entry j f);
-      outer = count-in (faces (turned (j .points) f)) (j .triangles);
+      outer = boundary-faces j f;
     }
 
 unfoldable pub fours-of : List Tetrahedron → List Four

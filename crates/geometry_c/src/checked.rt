@@ -1,7 +1,6 @@
 // The geometry of any coordinates and any numbers of points: what is out of range, or names no point, is refused.
 ghost use mathlib.Core.Path.{_≡_};
-ghost use mathlib.Core.Bool.{true};
-ghost use Rattle.geometry.specs.Range.{Present};
+ghost use Rattle.geometry_c.specs.Checked.{present, solid-answer, inside-answer, apart-answer, volume-answer, turned-answer};
 use geometry::apart::are_apart;
 use geometry::range::any_far;
 use geometry::tetrahedron::Four;
@@ -23,7 +22,7 @@ pub struct Volume {
 }
 
 pub fn is_present(points: &[i32], f: Four) -> bool
-    ensures { λ r. ⌜ (r ≡ true → Present (now (points .entry)) f) ⌝ }
+    ensures { λ r. ⌜ r ≡ present (now (points .entry)) f ⌝ }
 {
     let n = points.len() / 3;
     if f.a >= n {
@@ -42,7 +41,9 @@ pub fn is_present(points: &[i32], f: Four) -> bool
 }
 
 // D of document 01: six times the signed volume.
-pub fn volume_of(points: &[i32], f: Four) -> Volume {
+pub fn volume_of(points: &[i32], f: Four) -> Volume
+    ensures { λ r. ⌜ r ≡ volume-answer (now (points .entry)) f ⌝ }
+{
     if is_present(points, f) {
         return Volume {
             is_refused: false,
@@ -55,7 +56,9 @@ pub fn volume_of(points: &[i32], f: Four) -> Volume {
     }
 }
 
-pub fn solid(points: &[i32], f: Four) -> i32 {
+pub fn solid(points: &[i32], f: Four) -> i32
+    ensures { λ r. ⌜ r ≡ solid-answer (now (points .entry)) f ⌝ }
+{
     if is_present(points, f) {
         return if is_solid(points, f) { YES } else { NO };
     }
@@ -63,7 +66,9 @@ pub fn solid(points: &[i32], f: Four) -> i32 {
 }
 
 // f in the order that makes its volume positive; as it is where it is refused.
-pub fn turned(points: &[i32], f: Four) -> Four {
+pub fn turned(points: &[i32], f: Four) -> Four
+    ensures { λ r. ⌜ r ≡ turned-answer (now (points .entry)) f ⌝ }
+{
     if is_present(points, f) {
         return oriented(points, f);
     }
@@ -71,22 +76,20 @@ pub fn turned(points: &[i32], f: Four) -> Four {
 }
 
 // Whether the point p lies strictly inside f, whose volume is positive.
-pub fn inside(points: &[i32], f: Four, p: usize) -> i32 {
-    let q = Four {
-        a: p,
-        b: p,
-        c: p,
-        d: p,
-    };
-    if is_present(points, q) {
-        if is_present(points, f) {
+pub fn inside(points: &[i32], f: Four, p: usize) -> i32
+    ensures { λ r. ⌜ r ≡ inside-answer (now (points .entry)) f p ⌝ }
+{
+    if is_present(points, f) {
+        if p < points.len() / 3 {
             return if is_inside(points, f, p) { YES } else { NO };
         }
     }
     REFUSED
 }
 
-pub fn apart(points: &[i32], f: Four, g: Four) -> i32 {
+pub fn apart(points: &[i32], f: Four, g: Four) -> i32
+    ensures { λ r. ⌜ r ≡ apart-answer (now (points .entry)) f g ⌝ }
+{
     if is_present(points, f) {
         if is_present(points, g) {
             return if are_apart(points, f, g) { YES } else { NO };

@@ -2,6 +2,10 @@
 // numbers, and refuses. points has three coordinates a point; a slice is a pointer and a length. 1 is yes, 0 is no, -1 is refused.
 pub mod checked;
 
+ghost use mathlib.Core.Path.{_≡_};
+ghost use Rattle.geometry.specs.Space.{four};
+ghost use Rattle.geometry.specs.Measure.{number-of};
+ghost use Rattle.geometry_c.specs.Checked.{present, yes-or-no, volume-answer, inside-answer, apart-answer, four-from, Row, measure-answer};
 use checked::NO;
 use checked::Volume;
 use checked::YES;
@@ -25,7 +29,9 @@ pub struct Measure {
 
 // Whether every coordinate is in range and the numbers name points: what the next three functions ask first.
 #[no_mangle]
-pub extern "C" fn geometry_present(points: &[i32], a: usize, b: usize, c: usize, d: usize) -> i32 {
+pub extern "C" fn geometry_present(points: &[i32], a: usize, b: usize, c: usize, d: usize) -> i32
+    ensures { λ r. ⌜ r ≡ yes-or-no (present (now (points .entry)) (four a b c d)) ⌝ }
+{
     if is_present(points, Four { a, b, c, d }) {
         YES
     } else {
@@ -41,7 +47,9 @@ pub extern "C" fn geometry_signed_volume(
     b: usize,
     c: usize,
     d: usize,
-) -> Volume {
+) -> Volume
+    ensures { λ r. ⌜ r ≡ volume-answer (now (points .entry)) (four a b c d) ⌝ }
+{
     volume_of(points, Four { a, b, c, d })
 }
 
@@ -54,18 +62,24 @@ pub extern "C" fn geometry_is_inside(
     c: usize,
     d: usize,
     p: usize,
-) -> i32 {
+) -> i32
+    ensures { λ r. ⌜ r ≡ inside-answer (now (points .entry)) (four a b c d) p ⌝ }
+{
     inside(points, Four { a, b, c, d }, p)
 }
 
 // Whether some direction of the 44 parts the tetrahedra of the points f to f + 3 and g to g + 3.
 #[no_mangle]
-pub extern "C" fn geometry_are_apart(points: &[i32], f: usize, g: usize) -> i32 {
+pub extern "C" fn geometry_are_apart(points: &[i32], f: usize, g: usize) -> i32
+    ensures { λ r. ⌜ r ≡ apart-answer (now (points .entry)) (four-from f) (four-from g) ⌝ }
+{
     apart(points, four_from(f), four_from(g))
 }
 
 // Four points in a row; the first four times where the last has no number.
-fn four_from(f: usize) -> Four {
+fn four_from(f: usize) -> Four
+    ensures { λ r. ⌜ Row f r ⌝ }
+{
     if f > usize::MAX - 3 {
         return Four {
             a: f,
@@ -82,7 +96,9 @@ fn four_from(f: usize) -> Four {
     }
 }
 
-fn number_of(answer: Measurement) -> u32 {
+fn number_of(answer: Measurement) -> u32
+    ensures { λ r. ⌜ r ≡ number-of answer ⌝ }
+{
     match answer {
         Measurement::Refused(n) => n,
         Measurement::Flat => 0,
@@ -92,7 +108,9 @@ fn number_of(answer: Measurement) -> u32 {
 
 // D, S, the shape number and its millionths, 0 for a flat tetrahedron; refused is 0, 3 or 16.
 #[no_mangle]
-pub extern "C" fn geometry_measure(coordinates: &[i32]) -> Measure {
+pub extern "C" fn geometry_measure(coordinates: &[i32]) -> Measure
+    ensures { λ r. ⌜ r ≡ measure-answer (now (coordinates .entry)) ⌝ }
+{
     let m = measure(coordinates);
     let answer = m.answer;
     let sizes = m.sizes;

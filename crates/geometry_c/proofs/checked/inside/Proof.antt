@@ -1,4 +1,9 @@
--- `geometry_c::checked::inside` asks only of what is present. Assumes nothing.
+-- `geometry_c::checked::inside` meets its contract: it asks only of what is present. Assumes nothing.
+use mathlib.Core.Path.{sym, _∙_}
+use Rattle.geometry_c.proofs.Presence.{present-holds, named-below, is-named, unnamed, both-true, first-false, second-false}
+use Rattle.geometry_c.proofs.Answers.{answered-yes, answered-no, answer-refused}
+use native.Mathlib.Omega.{arith}
+use Rattle.geometry_c.specs.Checked.{present}
 use borrow.Author.Needs.{needs}
 use Rattle.geometry_c.proofs.checked.inside.Statement.{statement}
 use Rattle.geometry_c.proofs.checked.inside.Tie as tie
@@ -6,30 +11,40 @@ use Rattle.geometry_c.proofs.checked.inside.Tie as tie
 is-present-requires : tie.Need-is-present-requires
 is-present-requires c κs = search needs
 
-is-present-requires-2 : tie.Need-is-present-requires-2
-is-present-requires-2 c κs = search needs
-
 is-inside-requires : tie.Need-is-inside-requires
-is-inside-requires c κs = (c .before .is-present2 .ensures (c .if2 .taken), c .before .before .before .is-present .ensures (c .before .before .if1 .taken) .a)
+is-inside-requires c κs =
+    let s = c .before .before .before .args in (
+      present-holds _ _ (sym (c .before .before .is-present .ensures) ∙ c .before .if1 .taken),
+      named-below (s .points .now) (s .p) (is-named (s .points .now) (s .p) (omega arith)),
+    )
 
 returns : tie.Need-returns
-returns c = search needs
+returns c =
+    let s = c .before .before .before .before .before .args in
+    answered-yes
+    (both-true (sym (c .before .before .before .before .is-present .ensures) ∙ c .before .before .before .if1 .taken) (is-named (s .points .now) (s .p) (omega arith)))
+    (sym (c .before .is-inside .ensures) ∙ c .if3 .taken)
 
 returns-2 : tie.Need-returns-2
-returns-2 c = search needs
+returns-2 c =
+    let s = c .before .before .before .before .before .args in
+    answered-no
+    (both-true (sym (c .before .before .before .before .is-present .ensures) ∙ c .before .before .before .if1 .taken) (is-named (s .points .now) (s .p) (omega arith)))
+    (sym (c .before .is-inside .ensures) ∙ c .if3 .left)
 
 returns-3 : tie.Need-returns-3
-returns-3 c = search needs
+returns-3 c =
+    let s = c .before .before .before .args in
+    answer-refused _ (second-false (present (s .points .now) (s .f)) (unnamed (s .points .now) (s .p) (omega arith)))
 
 returns-4 : tie.Need-returns-4
-returns-4 c = search needs
+returns-4 c = answer-refused _ (first-false _ (sym (c .before .is-present .ensures) ∙ c .if1 .left))
 
 pub inside-spec : {M : Type 1} → statement M
 inside-spec =
     tie.close
     (tie.spec
     is-present-requires
-    is-present-requires-2
     is-inside-requires
     returns
     returns-2
