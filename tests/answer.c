@@ -29,7 +29,7 @@ static int boundary_faces(const uint8_t *f) {
     return n;
 }
 
-static void print_answer(found r, const uint8_t *answer) {
+static void print_answer(cottontuff_found r, const uint8_t *answer) {
     char *out = printed;
     if (r.number) {
         sprintf(out, "R,%u\n", r.number);
@@ -58,7 +58,7 @@ int main(int argc, char **argv) {
         uint8_t answer[ANSWER];
         struct timespec t0, t1;
         clock_gettime(CLOCK_MONOTONIC, &t0);
-        found r = cottontuff_search(j.points, 3 * (size_t)j.np, j.triangles, 3 * (size_t)j.nt, j.kept, 2 * (size_t)j.ne, j.table,
+        cottontuff_found r = cottontuff_search(j.points, 3 * (size_t)j.np, j.triangles, 3 * (size_t)j.nt, j.kept, 2 * (size_t)j.ne, j.table,
                                     j.entries, answer, ANSWER);
         clock_gettime(CLOCK_MONOTONIC, &t1);
         double s = (double)(t1.tv_sec - t0.tv_sec) + 1e-9 * (double)(t1.tv_nsec - t0.tv_nsec);

@@ -1,19 +1,11 @@
 // Job texts for the harnesses: a plain parser that takes the form only as far as the stored jobs need it.
 #pragma once
-#include <stdint.h>
+#include "../include/cottontuff.h"
 #include <stdio.h>
 #include <stdlib.h>
 #include <string.h>
 
-typedef struct {
-    uint32_t number, count, worst;
-} found;
-
-found cottontuff_search(const int32_t *points, size_t points_len, const uint8_t *triangles, size_t triangles_len,
-                        const uint8_t *kept, size_t kept_len, const int32_t *table, size_t table_len, uint8_t *answer,
-                        size_t answer_len);
-
-enum { POINTS = 8192, TRIANGLES = 8192, EDGES = 8192, TEXT = 1 << 17, ANSWER = 7280 };
+enum { POINTS = 8192, TRIANGLES = 8192, EDGES = 8192, TEXT = 1 << 17, ANSWER = COTTONTUFF_ANSWER_BYTES };
 
 typedef struct {
     int np, nt, ne;
