@@ -11,8 +11,8 @@ use lib.IntN.{ℤ}
 use Rattle.geometry.specs.Space.{points-in}
 use Rattle.geometry.specs.declared.tetrahedron.Four.{Four}
 use Rattle.laws.specs.Laws.{worst, once, all-faces}
-use Rattle.bench.specs.Bench.{Bench, Cavity, Done, Held, no-mesh, mesh, opened, held, fresh, refused, done, with-cavity, load, load-as, load-mesh, mesh-refusal, open-at, open-as, mesh-fours, grow, grow-as, grow-by, around, close, close-as, Replaced, Replaced-as, replace-by, put-in, new-tets, cavity-worst, cavity-job, top-count}
-use Rattle.bench.specs.History.{Op, loads, opens, grows, replaces, closes, Does, counts, Step, Ran, History}
+use Rattle.bench.specs.Bench.{Bench, Cavity, Done, Held, no-mesh, mesh, opened, held, refused, done, with-cavity, load, load-as, load-mesh, mesh-refusal, open-at, open-as, mesh-fours, grow, grow-as, grow-by, around, close, close-as, Replaced, Replaced-as, replace-by, put-in, new-tets, cavity-worst, cavity-job, top-count}
+use Rattle.bench.specs.History.{Op, loads, opens, grows, replaces, closes, Does, counts, Ran, History}
 
 -- ---- all but replace leave the count
 by-test : (b : Bench) (t : Bool) (x y : Done) → x .bench .count ≡ b .count → y .bench .count ≡ b .count → cond t x y .bench .count ≡ b .count

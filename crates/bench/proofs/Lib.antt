@@ -4,4 +4,14 @@ pub mod RimEdges
 pub mod RimLeast
 pub mod RimMost
 pub mod Renumber
+pub mod Picked
+pub mod CavityPoints
+pub mod AllPlaces
+pub mod CavityTable
+pub mod PlaceIn
+pub mod PlacedTriangles
+pub mod Unmatched
+pub mod Opened
+pub mod CavityTriangles
+pub mod Accepted
 pub mod History

@@ -4,10 +4,10 @@ use mathlib.Core.Path.{_≡_}
 use mathlib.Core.Bool.{Bool, true, false, _&&_, _||_, not, cond}
 use mathlib.Core.List.{List, [], _∷_, _++_, map}
 use mathlib.Core.Option.{Option, none, some}
-use Prim.Native.Nat.{ℕ, zero, suc, _+_, _*_, _-_, _/_, _%_, _≤_, _<_, min}
+use Prim.Native.Nat.{ℕ, zero, suc, _+_, _*_, _/_, _%_, min}
 use lib.Dec.{ltb, leb, eqb}
 use lib.ListN.{length, getD, take, drop}
-use lib.IntN.{ℤ, pos}
+use lib.IntN.{ℤ}
 use Rattle.geometry.specs.Space.{V3, four, points-in, solid}
 use Rattle.geometry.specs.Range.{any-far}
 use Rattle.geometry.specs.Measure.{four-quality, four-entry}

@@ -1,16 +1,16 @@
 -- RUNS OF THE BENCH (document 01): the count, the sum of D, and what stays right. Each statement is a type whose proof is owed, unless said otherwise.
 -- Assumes nothing.
 use mathlib.Core.Path.{_≡_}
-use mathlib.Core.Bool.{true, false, cond}
-use mathlib.Core.List.{List, [], _∷_, map}
-use Prim.Native.Nat.{ℕ, zero, suc, _+_, min}
+use mathlib.Core.Bool.{cond}
+use mathlib.Core.List.{List, [], _∷_}
+use Prim.Native.Nat.{ℕ, _+_, min}
 use lib.Dec.{eqb}
 use lib.IntN.{ℤ}
 use Rattle.geometry.specs.Space.{points-in}
 use Rattle.geometry.specs.declared.tetrahedron.Four.{Four}
 use Rattle.geometry.specs.Measure.{D-of}
 use Rattle.laws.specs.Check.{job-refusal}
-use Rattle.bench.specs.Bench.{Bench, Cavity, Done, Held, no-mesh, opened, held, fresh, load, open-at, grow, close, Replaced, mesh-fours, top-count, coordinates, renumbered, cavity-triangles, cavity-table}
+use Rattle.bench.specs.Bench.{Bench, Cavity, Done, no-mesh, opened, held, fresh, load, open-at, grow, close, Replaced, mesh-fours, top-count, coordinates, renumbered, cavity-triangles, cavity-table}
 
 -- ---- one operation, for every bench and input
 pub data Op : Type 0 where
@@ -65,7 +65,7 @@ Volume-kept = (b : Bench) (r : Done) → Replaced b r → mesh-D (r .bench) ≡ 
 unfoldable pub Stays-good : Type 0
 Stays-good = (o : Op) (b : Bench) (r : Done) → Does o b r → r .number ≡ 0 → held (r .bench) ≡ no-mesh → ⊥
 
--- ---- the job that replace hands to the search is one the checker accepts
+-- ---- the job that replace hands to the search is one the checker accepts. Proved in proofs/Accepted.
 unfoldable pub Cavity-accepted : Type 0
 Cavity-accepted =
     (b : Bench) (c : Cavity) → held b ≡ opened c →

@@ -14,7 +14,7 @@ use Rattle.laws.specs.Laws.{Job, law-1, law-2, law-3, law-4, law-5, law-
 use Rattle.laws.specs.Check.{job, job-refusal, two-alike, any-tri-bad, tris-alike, directed, unmatched, edge-bad, any-entry-bad, solid-unmeasured}
 
 -- a chain of tests gave 0: its first test failed, and the rest gave 0
-test-passed : (b : Bool) (n : ℕ) {x : ℕ} → cond b (suc n) x ≡ 0 → (b ≡ false) × (x ≡ 0)
+pub test-passed : (b : Bool) (n : ℕ) {x : ℕ} → cond b (suc n) x ≡ 0 → (b ≡ false) × (x ≡ 0)
 test-passed true n h = absurd (omega arith)
 test-passed false n h = (refl, h)
 
