@@ -1,4 +1,7 @@
 pub mod Text
+pub mod Parsing
+pub mod Runs
+pub mod Entries
 pub mod Written
 pub mod Print
 pub mod Printable

@@ -64,9 +64,13 @@ unfoldable pub all-digits : List ℕ → Bool
 all-digits [] = true
 all-digits (c ∷ cs) = (leb 48 c && leb c 57) && all-digits cs
 
+-- 1 to 7 bytes, and no 0 before another
+unfoldable pub well-begun : List ℕ → Bool
+well-begun [] = false
+well-begun (c ∷ cs) = leb (length cs) 6 && (not (eqb c 48) || eqb (length cs) 0)
+
 unfoldable pub number-form : List ℕ → Bool
-number-form [] = false
-number-form (c ∷ cs) = all-digits (c ∷ cs) && (leb (length cs) 6 && (not (eqb c 48) || eqb (length cs) 0))
+number-form cs = well-begun cs && all-digits cs
 
 unfoldable pub value-from : (so-far : ℕ) → List ℕ → ℕ
 value-from v [] = v

@@ -1,2 +1,7 @@
 // Job text and printout.
+// Assumes nothing.
+pub mod field;
+pub mod line;
 pub mod print;
+pub mod run;
+pub mod table;

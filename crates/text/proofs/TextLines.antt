@@ -1,0 +1,103 @@
+-- Lines one by one: where the next line ends, and what it is. Assumes nothing.
+use mathlib.Core.Path.{_≡_, refl, sym, ap, subst, _∙_}
+use mathlib.Core.Bool.{Bool, true, false, _&&_, not}
+use mathlib.Core.List.{List, [], _∷_, _++_, map}
+use Prim.Native.Nat.{ℕ, _+_, _-_, _≤_, _<_}
+use native.Mathlib.Omega.{arith}
+use borrow.Author.Tests.{eqb-true, not-true, ltb-true, ltb-false}
+use lib.Dec.{ltb, eqb}
+use lib.ListN.{length, take, drop, drop-of-length-le, length-drop}
+use Rattle.laws.proofs.Tests.{contradiction, and-true}
+use Rattle.text.specs.declared.line.Parsed.{Parsed}
+use Rattle.text.specs.declared.run.Next.{Next}
+use Rattle.text.specs.Text.{LF, Line, fields-of, line-in, lines-of, ends-well, text-lines, line-form, kind}
+use Rattle.text.specs.Parsing.{lacks, width, Found, Line-read}
+use Rattle.text.specs.Runs.{is-kind, starts, Line-start, Next-read}
+use Rattle.text.proofs.Splitting.{part-before, part-last, lines-split}
+use Rattle.text.proofs.LineBytes.{line-of}
+
+-- a text that ends well and is not over has an LF
+lacks-end : (bs : List ℕ) → 0 < length bs → ends-well bs ≡ true → lacks LF bs ≡ true → ⊥
+unfolding ends-well lacks
+lacks-end [] h e p = omega arith
+lacks-end (x ∷ []) h e p = contradiction e (not-true (eqb x LF) (and-true (not (eqb x LF)) true p .0))
+lacks-end (x ∷ y ∷ ys) h e p = lacks-end (y ∷ ys) (omega arith) e (and-true (not (eqb x LF)) (lacks LF (y ∷ ys)) p .1)
+
+ends-after : (w rest : List ℕ) → ends-well (w ++ LF ∷ rest) ≡ true → ends-well rest ≡ true
+unfolding ends-well
+ends-after [] [] e = refl
+ends-after [] (y ∷ ys) e = e
+ends-after (x ∷ []) rest e = ends-after [] rest e
+ends-after (x ∷ y ∷ w) rest e = ends-after (y ∷ w) rest e
+
+module _ (text : List ℕ) (at : ℕ) (s : Line-start text at) (h : at < length text) (stop : ℕ) (f : Found text at LF stop) where
+  pub line-ends : stop < length text
+  line-ends = go (ltb stop (length text)) refl
+    where
+      go : (t : Bool) → ltb stop (length text) ≡ t → stop < length text
+      go true e = ltb-true stop (length text) e
+      go false e =
+          let l = length-drop at text in
+          absurd (lacks-end (drop at text) (omega arith) (s .ends)
+          (subst (λ (ys : List ℕ). lacks LF ys ≡ true) (sym (part-last text at LF stop f (ltb-false stop (length text) e))) (f .clear)))
+
+  pub next-lines : text-lines (drop at text) ≡ line-of (take (stop - at) (drop at text)) ∷ text-lines (drop (stop + 1) text)
+  unfolding text-lines
+  next-lines =
+      ap (λ (bs : List ℕ). map (λ l. line-in (fields-of l)) (lines-of bs)) (part-before text at LF stop f line-ends)
+      ∙ ap (map (λ l. line-in (fields-of l))) (lines-split (take (stop - at) (drop at text)) (drop (stop + 1) text) (f .clear))
+
+  pub next-start : Line-start text (stop + 1)
+  next-start =
+      let l = line-ends in
+      record {
+        inside = omega arith;
+        ends =
+            ends-after (take (stop - at) (drop at text)) (drop (stop + 1) text)
+            (subst (λ (bs : List ℕ). ends-well bs ≡ true) (part-before text at LF stop f line-ends) (s .ends));
+      }
+
+-- ---- of which kind
+pub kind-tested : (k : ℕ) (l : Line) (r : Parsed) → Line-read l r → (r .ok && eqb (r .kind) k) ≡ is-kind k l
+unfolding is-kind
+kind-tested k l r g = go (r .ok) refl
+  where
+    go : (t : Bool) → r .ok ≡ t → (r .ok && eqb (r .kind) k) ≡ (line-form l && eqb (kind l) k)
+    go true p =
+        ap (λ (t : Bool). t && eqb (r .kind) k) (g .form) ∙ ap (λ (j : ℕ). line-form l && eqb j k) (g .kind-of p)
+    go false p =
+        ap (λ (t : Bool). t && eqb (r .kind) k) p ∙ sym (ap (λ (t : Bool). t && eqb (kind l) k) (sym (g .form) ∙ p))
+
+pub no-lines : (k : ℕ) (text : List ℕ) (at : ℕ) → length text ≤ at → (r : Next) → r .ok ≡ false → Next-read k text at r
+unfolding text-lines lines-of starts
+no-lines k text at h r p =
+    record {
+      some = λ e. contradiction e p;
+      none = λ _. ap (λ (bs : List ℕ). starts k (text-lines bs)) (drop-of-length-le text h);
+    }
+
+module _ (k : ℕ) (text : List ℕ) (at : ℕ) (s : Line-start text at) (h : at < length text) (stop : ℕ) (f : Found text at LF stop) (r : Parsed) (g : Line-read (line-of (take (stop - at) (drop at text))) r) where
+  pub other-line : (r .ok && eqb (r .kind) k) ≡ false → (q : Next) → q .ok ≡ false → Next-read k text at q
+  unfolding starts
+  other-line p q n =
+      record {
+        some = λ e. contradiction e n;
+        none = λ _. ap (starts k) (next-lines text at s h stop f) ∙ sym (kind-tested k (line-of (take (stop - at) (drop at text))) r g) ∙ p;
+      }
+
+  pub this-line : (r .ok && eqb (r .kind) k) ≡ true → Next-read k text at (record { ok = true; next = stop + 1; values = r .values })
+  this-line p =
+      let q = and-true (r .ok) (eqb (r .kind) k) p in
+      let l = f .low in
+      record {
+        some = λ _.
+            record {
+              line = line-of (take (stop - at) (drop at text));
+              first = next-lines text at s h stop f;
+              right = sym (kind-tested k (line-of (take (stop - at) (drop at text))) r g) ∙ p;
+              numbers = ap (λ (j : ℕ). take (width j) (r .values)) (sym (eqb-true (r .kind) k (q .1)) ∙ g .kind-of (q .0)) ∙ g .numbers (q .0);
+              later = omega arith;
+              next = next-start text at s h stop f;
+            };
+        none = λ e. contradiction refl e;
+      }
