@@ -1,4 +1,4 @@
--- RUNS OF THE BENCH (document 01): the count, the sum of D, and what stays right. Each statement is a type whose proof is owed, unless said otherwise.
+-- RUNS OF THE BENCH (document 01): the count, the sum of D, and what stays right.
 -- Assumes nothing.
 use mathlib.Core.Path.{_≡_}
 use mathlib.Core.Bool.{cond}
@@ -50,7 +50,7 @@ Ran (o ∷ os) b k = (b₀ : Bench) × (k₀ : ℕ) × Ran os b₀ k₀ × Step 
 unfoldable pub History : Type 0
 History = (os : List Op) (b : Bench) (k : ℕ) → Ran os b k → b .count ≡ min k top-count
 
--- ---- the sum of D over the mesh
+-- ---- the sum of D over the mesh: kept by replace. Proved in proofs/VolumeKept.
 unfoldable pub sum-of-D : (points : List ℤ) → List Four → ℕ
 sum-of-D cs [] = 0
 sum-of-D cs (f ∷ fs) = D-of (points-in cs) f + sum-of-D cs fs
@@ -61,7 +61,7 @@ mesh-D b = sum-of-D (b .points) (mesh-fours (b .tets))
 unfoldable pub Volume-kept : Type 0
 Volume-kept = (b : Bench) (r : Done) → Replaced b r → mesh-D (r .bench) ≡ mesh-D b
 
--- ---- a bench that an operation has made or changed holds a mesh
+-- ---- a bench that an operation has made or changed holds a mesh. Proved in proofs/Validity.
 unfoldable pub Stays-good : Type 0
 Stays-good = (o : Op) (b : Bench) (r : Done) → Does o b r → r .number ≡ 0 → held (r .bench) ≡ no-mesh → ⊥
 
