@@ -4,29 +4,28 @@ use mathlib.Core.Bool.{Bool, true, false, _&&_, _||_, not}
 use mathlib.Core.List.{List, [], _∷_, _++_, map, append-nil}
 use Prim.Native.Nat.{ℕ, _≤_, _<_}
 use native.Mathlib.Omega.{arith}
-use borrow.Author.Tests.{ltb-true, ltb-false, leb-false, le-leb, lt-leb, not-true, not-false}
+use borrow.Author.Tests.{not-true, not-false}
 use lib.Dec.{leb, ltb}
 use lib.ListN.{length, getD, take, drop, set, length-map, length-replicate, getD-replicate, List·getD-map}
-use lib.Seq.{getD-take, getD-set-same, getD-set-other, length-take-le, ext-getD, append-snoc}
+use lib.Seq.{getD-take, length-take-le, ext-getD, append-snoc}
 use lib.IntN.{ℤ, pos, negsuc}
 use Rattle.geometry.specs.Space.{four}
 use Rattle.geometry.specs.declared.tetrahedron.Four.{Four}
 use Rattle.laws.specs.Laws.{place, choose}
 use Rattle.laws.specs.Check.{unmeasured}
 use Rattle.laws.specs.Fours.{all-fours}
-use Rattle.laws.specs.Promise.{Places-right}
-use Rattle.laws.proofs.Tests.{contradiction, and-true, or-false}
+use Rattle.laws.proofs.Tests.{and-true}
 use Rattle.laws.proofs.Sorted.{Well-formed}
 use Rattle.laws.proofs.Places.{place-below}
 use Rattle.laws.proofs.TablePlace.{fours-most, getD-inside}
-use Rattle.laws.proofs.Promises.{places-right}
 use Rattle.text.specs.declared.run.Next.{Next}
-use Rattle.text.specs.Text.{Line, text-lines, four-in, value-in, same-four, has-four, Q-bad, Q-entry}
-use Rattle.text.specs.Runs.{is-kind, starts, run, after, Line-start, Line-at}
+use Rattle.text.specs.Text.{Line, text-lines, four-in, has-four, Q-bad, Q-entry}
+use Rattle.text.specs.Runs.{starts, run, after, Line-start, Line-at}
 use Rattle.text.specs.Entries.{blank, Entered, Table-read}
 use Rattle.text.proofs.RunLoop.{run-more, after-more, run-none, after-none}
-use Rattle.text.proofs.QLines.{same-four-true, same-four-of, entry-unmeasured, entry-other, entry-new, bad-more}
-use Rattle.text.proofs.QNumbers.{four-is, value-is, line-rises}
+use Rattle.text.proofs.QLines.{bad-more}
+use Rattle.text.proofs.QNumbers.{four-is, value-is}
+use Rattle.text.proofs.TableStep.{taken-is, new-entries}
 use Rattle.text.proofs.FourPlaces.{fours-count, well-at, place-at}
 
 -- ---- the loop
@@ -56,48 +55,6 @@ tabling-none n h text from table e s =
     }
 
 -- ---- one line more
-module _ (n : ℕ) (h : n ≤ 16) (read : List Line) (line : Line) (table : List ℤ) (room : length table ≡ 1820) (entries : (f : Four) → Well-formed n f → getD table (place n f) (negsuc 0) ≡ Q-entry read f) (rises : is-kind 3 line ≡ true) where
-  abbrev this : Four
-  this = four-in line
-
-  taken-is : (r : Bool) → r ≡ (ltb (this .d) n && unmeasured (getD table (place n this) (negsuc 0))) → r ≡ not (leb n (this .d) || has-four this read)
-  taken-is r e = go (ltb (this .d) n) refl
-    where
-      go : (t : Bool) → ltb (this .d) n ≡ t → r ≡ not (leb n (this .d) || has-four this read)
-      go true p =
-          let d = ltb-true (this .d) n p in
-          e
-          ∙ ap (λ (t : Bool). t && unmeasured (getD table (place n this) (negsuc 0))) p
-          ∙ ap unmeasured (entries this (record { up = line-rises line rises; below = d }))
-          ∙ entry-unmeasured read this
-          ∙ ap (λ (t : Bool). not (t || has-four this read)) (sym (lt-leb n (this .d) d))
-      go false p =
-          e
-          ∙ ap (λ (t : Bool). t && unmeasured (getD table (place n this) (negsuc 0))) p
-          ∙ ap (λ (t : Bool). not (t || has-four this read)) (sym (le-leb n (this .d) (ltb-false (this .d) n p)))
-
-  module _ (free : (leb n (this .d) || has-four this read) ≡ false) where
-    well : Well-formed n this
-    well = record { up = line-rises line rises; below = leb-false n (this .d) (or-false (leb n (this .d)) (has-four this read) free .0) }
-
-    new-entries : (f : Four) → Well-formed n f → getD (set table (place n this) (pos (value-in line))) (place n f) (negsuc 0) ≡ Q-entry (read ++ line ∷ []) f
-    unfolding Places-right
-    new-entries f w = go (same-four f this) refl
-      where
-        go : (t : Bool) → same-four f this ≡ t → getD (set table (place n this) (pos (value-in line))) (place n f) (negsuc 0) ≡ Q-entry (read ++ line ∷ []) f
-        go true p =
-            let e = same-four-true f this p in
-            let m = fours-most n h in
-            let k = place-below n this well in
-            ap (λ (g : Four). getD (set table (place n this) (pos (value-in line))) (place n g) (negsuc 0)) e
-            ∙ getD-set-same table (place n this) (pos (value-in line)) (negsuc 0) (omega arith)
-            ∙ sym (entry-new read line f (ap (λ (g : Four). has-four g read) e ∙ or-false (leb n (this .d)) (has-four this read) free .1) p)
-        go false p =
-            getD-set-other table (place n this) (place n f) (pos (value-in line)) (negsuc 0)
-            (λ e. contradiction (same-four-of f this (places-right n f this h (w .up) (well .up) (w .below) (well .below) .1 e)) p)
-            ∙ entries f w
-            ∙ sym (entry-other read line f p)
-
 module _ {n : ℕ} {text : List ℕ} {from : ℕ} {table : List ℤ} {at : ℕ} {good : Bool} (h : n ≤ 16) (s : Tabling n text from table at good) where
   module _ (q : Next) (l : Line-at 3 text at q) (new : List ℤ) (r : Bool) (e : Entered n (q .values) table new r) where
     free-is : good ≡ true → r ≡ not (leb n (four-in (l .line) .d) || has-four (four-in (l .line)) (s .read))

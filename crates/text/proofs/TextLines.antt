@@ -2,15 +2,15 @@
 use mathlib.Core.Path.{_≡_, refl, sym, ap, subst, _∙_}
 use mathlib.Core.Bool.{Bool, true, false, _&&_, not}
 use mathlib.Core.List.{List, [], _∷_, _++_, map}
-use Prim.Native.Nat.{ℕ, _+_, _-_, _≤_, _<_}
+use Prim.Native.Nat.{ℕ, suc, _+_, _-_, _≤_, _<_}
 use native.Mathlib.Omega.{arith}
 use borrow.Author.Tests.{eqb-true, not-true, ltb-true, ltb-false}
 use lib.Dec.{ltb, eqb}
-use lib.ListN.{length, take, drop, drop-of-length-le, length-drop}
+use lib.ListN.{length, getD, take, drop, drop-of-length-le, length-drop, length-map}
 use Rattle.laws.proofs.Tests.{contradiction, and-true}
 use Rattle.text.specs.declared.line.Parsed.{Parsed}
 use Rattle.text.specs.declared.run.Next.{Next}
-use Rattle.text.specs.Text.{LF, Line, fields-of, line-in, lines-of, ends-well, text-lines, line-form, kind}
+use Rattle.text.specs.Text.{LF, in-first, new-or-in-first, Line, fields-of, line-in, lines-of, ends-well, text-lines, line-form, kind}
 use Rattle.text.specs.Parsing.{lacks, width, Found, Line-read}
 use Rattle.text.specs.Runs.{is-kind, starts, Line-start, Next-read}
 use Rattle.text.proofs.Splitting.{part-before, part-last, lines-split}
@@ -101,3 +101,39 @@ module _ (k : ℕ) (text : List ℕ) (at : ℕ) (s : Line-start text at) (h : at
             };
         none = λ e. contradiction refl e;
       }
+
+-- ---- the end of the text
+pub ends-none : (bs : List ℕ) → length bs ≡ 0 → ends-well bs ≡ true
+unfolding ends-well
+ends-none [] e = refl
+ends-none (x ∷ bs) e = absurd (omega arith)
+
+pub ends-some : (bs : List ℕ) → (length bs ≡ 0 → ⊥) → ends-well bs ≡ eqb (getD bs (length bs - 1) 0) LF
+unfolding ends-well
+ends-some [] n = absurd (n refl)
+ends-some (x ∷ []) n = refl
+ends-some (x ∷ y ∷ ys) n =
+    let e : suc (length ys) ≡ suc (suc (length ys)) - 1 = omega arith in
+    let d : suc (suc (length ys) - 1) ≡ suc (length ys) = omega arith in
+    ends-some (y ∷ ys) (λ e. omega arith) ∙ ap (λ (i : ℕ). eqb (getD (x ∷ y ∷ ys) i 0) LF) (d ∙ e)
+
+lines-some : (bs : List ℕ) → 0 < length bs → 0 < length (lines-of bs)
+unfolding lines-of new-or-in-first in-first
+lines-some [] h = absurd (omega arith)
+lines-some (x ∷ xs) h = go (eqb x LF) (lines-of xs)
+  where
+    go : (t : Bool) (ls : List (List ℕ)) → 0 < length (new-or-in-first t x ls)
+    go true ls = omega arith
+    go false [] = omega arith
+    go false (l ∷ ls) = omega arith
+
+pub lines-left : (text : List ℕ) (at : ℕ) → at < length text → 0 < length (text-lines (drop at text))
+unfolding text-lines
+lines-left text at h =
+    let l = length-drop at text in
+    let k = lines-some (drop at text) (omega arith) in
+    let e = length-map (lines-of (drop at text)) (λ l. line-in (fields-of l)) in omega arith
+
+pub lines-over : (text : List ℕ) (at : ℕ) → length text ≤ at → text-lines (drop at text) ≡ []
+unfolding text-lines lines-of
+lines-over text at h = ap text-lines (drop-of-length-le text h)

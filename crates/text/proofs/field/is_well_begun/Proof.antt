@@ -2,21 +2,15 @@
 use mathlib.Core.Path.{sym}
 use borrow.Author.Needs.{needs}
 use Rattle.text.proofs.Digits.{begun-none, begun-some}
-use borrow.Author.Needs.{needs}
 use Rattle.text.proofs.field.is_well_begun.Statement.{statement}
 use Rattle.text.proofs.field.is_well_begun.Tie as tie
-use Rattle.text.proofs.field.is_well_begun.Reads as reads
-use Rattle.text.proofs.field.is_well_begun.Lts as lts
 
--- src/field.rt:40:9
 returns : tie.Need-returns
 returns c = sym (begun-none (c .before .args .word .now) (c .if1 .taken))
 
--- src/field.rt:42:27
 shared-slice-read-result : tie.Need-shared-slice-read-result
 shared-slice-read-result c = search needs
 
--- src/field.rt:36:1
 returns-2 : tie.Need-returns-2
 returns-2 c = sym (begun-some (c .before .before .args .word .now) (c .before .if1 .left))
 

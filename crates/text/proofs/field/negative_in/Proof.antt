@@ -3,34 +3,24 @@ use mathlib.Core.Path.{_∙_}
 use borrow.Author.Needs.{needs}
 use mir.Facts.{toZ-ofZ}
 use Rattle.text.proofs.FieldForms.{refused-negative, refused-zero, taken-negative}
-use borrow.Author.Needs.{needs}
 use Rattle.text.proofs.field.negative_in.Statement.{statement}
 use Rattle.text.proofs.field.negative_in.Tie as tie
-use Rattle.text.proofs.field.negative_in.Reads as reads
-use Rattle.text.proofs.field.negative_in.Lts as lts
-use Rattle.text.proofs.field.negative.Reads as negative-reads
-use Rattle.text.proofs.field.number_in.Reads as number-in-reads
 
--- src/field.rt:83:9
 number-in-requires : tie.Need-number-in-requires
 number-in-requires c κs = search needs
 
--- src/field.rt:88:24
 negative-requires : tie.Need-negative-requires
 negative-requires c κs = c .before .before .before .number-in .ensures .number (c .before .before .if1 .taken) .1
 
--- src/field.rt:86:13
 returns : tie.Need-returns
 returns c =
     let n = c .before .before .before .before .number-in in
     taken-negative (c .before .before .before .before .before .before .args .digits .now) (n .result) (n .ensures) (c .before .before .before .if1 .taken) _ (toZ-ofZ (record { sfits = c .negative .ok }) ∙ c .negative .ensures) (c .before .if2 .taken)
 
--- src/field.rt:80:1
 returns-2 : tie.Need-returns-2
 returns-2 c =
     let n = c .before .before .before .number-in in refused-zero (c .before .before .before .before .before .args .digits .now) (n .result) (n .ensures) (c .before .before .if1 .taken) (c .if2 .left)
 
--- src/field.rt:80:1
 returns-3 : tie.Need-returns-3
 returns-3 c = refused-negative (c .before .before .before .args .digits .now) (c .before .number-in .result) (c .before .number-in .ensures) (c .if1 .left)
 

@@ -1,7 +1,7 @@
 -- `text::field::number_in` meets its contract. The loop's invariant: the value so far and the bytes left make up the value of all. Assumes nothing.
-use mathlib.Core.Path.{_≡_, refl, sym, ap, _∙_}
-use mathlib.Core.Bool.{true, false, not}
-use Prim.Native.Nat.{_-_, _*_, _+_, _^_, _≤_, _<_}
+use mathlib.Core.Path.{_≡_, refl, sym, _∙_}
+use mathlib.Core.Bool.{true}
+use Prim.Native.Nat.{_-_, _^_, _≤_, _<_}
 use native.Mathlib.Omega.{arith}
 use borrow.Author.Tests.{not-true, not-false, ltb-false}
 use lib.Dec.{ltb, lit<}
@@ -11,9 +11,6 @@ use Rattle.text.proofs.Digits.{refused-number, not-begun, begun, begun-
 use Rattle.laws.proofs.Tests.{or-false}
 use Rattle.text.proofs.field.number_in.Statement.{statement}
 use Rattle.text.proofs.field.number_in.Tie as tie
-use Rattle.text.proofs.field.number_in.Reads as reads
-use Rattle.text.proofs.field.number_in.Lts as lts
-use Rattle.text.proofs.field.is_well_begun.Reads as is-well-begun-reads
 
 abbrev Inv-loop : tie.InvT-loop
 Inv-loop word value₀ i₀ v i =
@@ -22,21 +19,17 @@ Inv-loop word value₀ i₀ v i =
 abbrev μ-loop : tie.MeasureT-loop
 μ-loop word value₀ i₀ v i = length word - i
 
--- src/field.rt:48:9
 is-well-begun-requires : tie.Need-is-well-begun-requires Inv-loop μ-loop
 is-well-begun-requires c κs = tt
 
--- src/field.rt:49:9
 returns : tie.Need-returns Inv-loop μ-loop
 returns c =
     refused-number (c .before .before .before .args .word .now) (not-begun (c .before .before .before .args .word .now)
     (sym (c .before .is-well-begun .ensures) ∙ not-true (c .before .is-well-begun .result) (c .if1 .taken)))
 
--- src/field.rt:53:5
 loop-holds : tie.Need-loop-holds Inv-loop μ-loop
 loop-holds c = (omega arith, lit< tt, value-start (c .before .before .before .args .word .now), refl)
 
--- src/field.rt:54:17
 shared-slice-read-c : tie.Need-shared-slice-read-c Inv-loop μ-loop
 shared-slice-read-c c = omega arith
 
@@ -44,7 +37,6 @@ shared-slice-read-c c = omega arith
 is-begun : (c : tie.Else1 Inv-loop μ-loop) → well-begun (c .before .before .before .args .word .now) ≡ true
 is-begun c = sym (c .before .is-well-begun .ensures) ∙ not-false (c .before .is-well-begun .result) (c .if1 .left)
 
--- src/field.rt:56:13
 returns-2 : tie.Need-returns-2 Inv-loop μ-loop
 returns-2 c = refused-number (c .before .before .before .before .before .before .before .args .word .now) (begun (c .before .before .before .before .before .before .before .args .word .now) (is-begun (c .before .before .before .before)) ∙ c .before .before .before .loop .inv .3 ∙ digits-end (c .before .before .before .before .before .before .before .args .word .now) (c .before .before .before .loop .i) (omega arith) (no-digit (getD (c .before .before .before .before .before .before .before .args .word .now) (c .before .before .before .loop .i) 0) (c .if2 .taken)))
 
@@ -57,31 +49,24 @@ digit c =
 room : (c : tie.Else2 Inv-loop μ-loop) → c .before .before .before .loop .value < 1000000
 room c = let h = begun-short (c .before .before .before .before .before .before .before .args .word .now) (is-begun (c .before .before .before .before)) in six-digits (c .before .before .before .loop .value) (c .before .before .before .loop .i) (c .before .before .before .loop .inv .1) (omega arith)
 
--- src/field.rt:58:17
 mul-value : tie.Need-mul-value Inv-loop μ-loop
 mul-value c = let v = room c in omega arith
 
--- src/field.rt:58:31
 cast-value : tie.Need-cast-value Inv-loop μ-loop
 cast-value c = let d = c .before .shared-slice-known2 .given (c .before .before .before .loop .i) in omega arith
 
--- src/field.rt:58:31
 sub-value : tie.Need-sub-value Inv-loop μ-loop
 sub-value c = digit c .0
 
--- src/field.rt:58:17
 add-value : tie.Need-add-value Inv-loop μ-loop
 add-value c = let v = room c in let d = digit c in omega arith
 
--- src/field.rt:59:9
 add-i : tie.Need-add-i Inv-loop μ-loop
 add-i c = omega arith
 
--- src/field.rt:53:5
 loop-less : tie.Need-loop-less Inv-loop μ-loop
 loop-less c = omega arith
 
--- src/field.rt:53:5
 loop-again : tie.Need-loop-again Inv-loop μ-loop
 loop-again c =
     let s = c .before .before .before .before .before .before .before .args .word .now in
@@ -92,7 +77,6 @@ loop-again c =
       l .inv .3 ∙ digits-more s (l .i) (omega arith) (digit c .0) (digit c .1),
     )
 
--- src/field.rt:45:1
 returns-3 : tie.Need-returns-3 Inv-loop μ-loop
 returns-3 c =
     let s = c .before .before .before .before .before .args .word .now in

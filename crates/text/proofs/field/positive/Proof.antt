@@ -3,17 +3,12 @@ use native.Mathlib.Omega.{arith}
 use borrow.Author.Needs.{needs}
 use mir.Syntax.{w32}
 use mir.Facts.{toZ-pos}
-use borrow.Author.Needs.{needs}
 use Rattle.text.proofs.field.positive.Statement.{statement}
 use Rattle.text.proofs.field.positive.Tie as tie
-use Rattle.text.proofs.field.positive.Reads as reads
-use Rattle.text.proofs.field.positive.Lts as lts
 
--- src/field.rt:69:5
 cast-result : tie.Need-cast-result
 cast-result c = search needs
 
--- src/field.rt:65:1
 returns : tie.Need-returns
 returns c = toZ-pos w32 (let h = c .pre in omega arith)
 

@@ -1,18 +1,12 @@
 -- `text::line::fields_in` meets its contract. The loop's invariant: the fields read so far and those left make up all. Assumes nothing.
-use mathlib.Core.Path.{_≡_, refl, sym, _∙_}
-use Prim.Native.Nat.{_-_, _≤_}
+use mathlib.Core.Path.{refl}
+use Prim.Native.Nat.{_-_}
 use native.Mathlib.Omega.{arith}
 use borrow.Author.Tests.{not-true, not-false}
-use lib.ListN.{length}
 use mir.Facts.{toZ-ofZ}
 use Rattle.text.proofs.FieldLoop.{So-far, none-so-far, too-many, bad-field, last-taken, field-taken}
 use Rattle.text.proofs.line.fields_in.Statement.{statement}
 use Rattle.text.proofs.line.fields_in.Tie as tie
-use Rattle.text.proofs.line.fields_in.Reads as reads
-use Rattle.text.proofs.line.fields_in.Lts as lts
-use Rattle.text.proofs.field.field_in.Reads as field-in-reads
-use Rattle.text.proofs.field.find.Reads as find-reads
-use Rattle.text.proofs.line.no_fields.Reads as no-fields-reads
 
 abbrev Inv-loop : tie.InvT-loop
 Inv-loop bytes signed values₀ count₀ at₀ values count at = So-far signed bytes values count at
@@ -20,69 +14,54 @@ Inv-loop bytes signed values₀ count₀ at₀ values count at = So-far signed b
 abbrev μ-loop : tie.MeasureT-loop
 μ-loop bytes signed values₀ count₀ at₀ values count at = 5 - count
 
--- src/line.rt:30:5
 loop-holds : tie.Need-loop-holds Inv-loop μ-loop
 loop-holds c = none-so-far (c .before .args .signed) (c .before .args .bytes .now) _ refl
 
--- src/line.rt:31:13
 find-requires : tie.Need-find-requires Inv-loop μ-loop
 find-requires c κs = c .before .loop .inv .inside
 
--- src/line.rt:32:26
 sub-field-in : tie.Need-sub-field-in Inv-loop μ-loop
 sub-field-in c = c .find .ensures .low
 
--- src/line.rt:32:26
 part-field-in-start : tie.Need-part-field-in-start Inv-loop μ-loop
 part-field-in-start c = c .find .ensures .low
 
--- src/line.rt:32:26
 part-field-in-end : tie.Need-part-field-in-end Inv-loop μ-loop
 part-field-in-end c = c .find .ensures .high
 
--- src/line.rt:32:13
 field-in-requires : tie.Need-field-in-requires Inv-loop μ-loop
 field-in-requires c κs = tt
 
--- src/line.rt:34:13
 no-fields-requires : tie.Need-no-fields-requires Inv-loop μ-loop
 no-fields-requires c κs = tt
 
--- src/line.rt:34:13
 returns : tie.Need-returns Inv-loop μ-loop
 returns c =
     let r = c .before .before .before .field-in in
     bad-field (c .before .before .before .before .before .before .before .loop .inv) (c .before .before .before .before .before .find .result) (c .before .before .before .before .before .find .ensures) (r .result) (r .ensures) (not-true (r .result .ok) (c .before .if1 .taken))
     (c .no-fields .result) (c .no-fields .ensures)
 
--- src/line.rt:37:9
 mul-values : tie.Need-mul-values Inv-loop μ-loop
 mul-values c = omega arith
 
--- src/line.rt:37:9
 array-set-from-values : tie.Need-array-set-from-values Inv-loop μ-loop
 array-set-from-values c = omega arith
 
--- src/line.rt:38:9
 add-count : tie.Need-add-count Inv-loop μ-loop
 add-count c = omega arith
 
--- src/line.rt:40:13
 returns-2 : tie.Need-returns-2 Inv-loop μ-loop
 returns-2 c =
     let r = c .before .before .before .before .field-in in
     last-taken (c .before .before .before .before .before .before .before .before .loop .inv) (c .before .before .before .before .before .before .find .result) (c .before .before .before .before .before .before .find .ensures) (r .result) (r .ensures) (not-false (r .result .ok) (c .before .before .if1 .left))
     (omega arith) _ (toZ-ofZ (record { sfits = c .before .struct-told .given .1 .0 .1 })) (omega arith)
 
--- src/line.rt:46:14
 add-at : tie.Need-add-at Inv-loop μ-loop
 add-at c = let h = c .before .before .before .before .before .before .find .ensures .high in omega arith
 
--- src/line.rt:30:5
 loop-less : tie.Need-loop-less Inv-loop μ-loop
 loop-less c = omega arith
 
--- src/line.rt:30:5
 loop-again : tie.Need-loop-again Inv-loop μ-loop
 loop-again c =
     let r = c .before .before .before .before .field-in in
@@ -90,11 +69,9 @@ loop-again c =
     field-taken (c .before .before .before .before .before .before .before .before .loop .inv) (c .before .before .before .before .before .before .find .result) (c .before .before .before .before .before .before .find .ensures) (r .result) (r .ensures) (not-false (r .result .ok) (c .before .before .if1 .left))
     (omega arith) _ (toZ-ofZ (record { sfits = c .before .struct-told .given .1 .0 .1 })) (omega arith)
 
--- src/line.rt:48:5
 no-fields-requires-2 : tie.Need-no-fields-requires-2 Inv-loop μ-loop
 no-fields-requires-2 c κs = tt
 
--- src/line.rt:24:1
 returns-3 : tie.Need-returns-3 Inv-loop μ-loop
 returns-3 c = too-many (c .before .before .loop .inv) (omega arith) (c .no-fields2 .result) (c .no-fields2 .ensures)
 

@@ -4,24 +4,16 @@ use mathlib.Core.Bool.{Bool, _&&_, _||_, not}
 use Prim.Native.Nat.{ℕ}
 use borrow.Author.Needs.{needs}
 use lib.Dec.{eqb}
-use Rattle.text.specs.Parsing.{width, rising-values, of-kind}
-use borrow.Author.Needs.{needs}
+use Rattle.text.specs.Parsing.{width, of-kind}
 use Rattle.text.proofs.line.is_of_kind.Statement.{statement}
 use Rattle.text.proofs.line.is_of_kind.Tie as tie
-use Rattle.text.proofs.line.is_of_kind.Reads as reads
-use Rattle.text.proofs.line.is_of_kind.Lts as lts
-use Rattle.text.proofs.line.is_rising.Reads as is-rising-reads
-use Rattle.text.proofs.line.width.Reads as width-reads
 
--- src/line.rt:96:15
 width-requires : tie.Need-width-requires
 width-requires c κs = search needs
 
--- src/line.rt:96:45
 is-rising-requires : tie.Need-is-rising-requires
 is-rising-requires c κs = search needs
 
--- src/line.rt:93:1
 returns : tie.Need-returns
 unfolding of-kind
 returns c =

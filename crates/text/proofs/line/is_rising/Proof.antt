@@ -6,37 +6,27 @@ use mir.Syntax.{w32}
 use mir.Val.{SFits}
 use mir.Facts.{toZ-ofZ}
 use Rattle.text.specs.Parsing.{rising-values}
-use borrow.Author.Needs.{needs}
 use Rattle.text.proofs.line.is_rising.Statement.{statement}
 use Rattle.text.proofs.line.is_rising.Tie as tie
-use Rattle.text.proofs.line.is_rising.Reads as reads
-use Rattle.text.proofs.line.is_rising.Lts as lts
 
--- src/line.rt:89:6
 array-copy-out-result : tie.Need-array-copy-out-result
 array-copy-out-result c = search needs
 
--- src/line.rt:89:18
 array-copy-out-result-2 : tie.Need-array-copy-out-result-2
 array-copy-out-result-2 c = search needs
 
--- src/line.rt:89:33
 array-copy-out-result-3 : tie.Need-array-copy-out-result-3
 array-copy-out-result-3 c = search needs
 
--- src/line.rt:89:45
 array-copy-out-result-4 : tie.Need-array-copy-out-result-4
 array-copy-out-result-4 c = search needs
 
--- src/line.rt:89:59
 array-copy-out-result-5 : tie.Need-array-copy-out-result-5
 array-copy-out-result-5 c = search needs
 
--- src/line.rt:89:71
 array-copy-out-result-6 : tie.Need-array-copy-out-result-6
 array-copy-out-result-6 c = search needs
 
--- src/line.rt:86:1
 returns : tie.Need-returns
 unfolding rising-values
 returns c =

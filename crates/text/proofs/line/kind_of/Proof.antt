@@ -4,30 +4,23 @@ use Rattle.text.specs.Parsing.{letter-kind}
 use Rattle.text.proofs.LineForms.{letter-none}
 use Rattle.text.proofs.line.kind_of.Statement.{statement}
 use Rattle.text.proofs.line.kind_of.Tie as tie
-use Rattle.text.proofs.line.kind_of.Reads as reads
-use Rattle.text.proofs.line.kind_of.Lts as lts
 
--- src/line.rt:62:1
 returns : tie.Need-returns
 unfolding letter-kind
 returns c = ap letter-kind (sym (c .match .keys1))
 
--- src/line.rt:62:1
 returns-2 : tie.Need-returns-2
 unfolding letter-kind
 returns-2 c = ap letter-kind (sym (c .match .keys2))
 
--- src/line.rt:62:1
 returns-3 : tie.Need-returns-3
 unfolding letter-kind
 returns-3 c = ap letter-kind (sym (c .match .keys3))
 
--- src/line.rt:62:1
 returns-4 : tie.Need-returns-4
 unfolding letter-kind
 returns-4 c = ap letter-kind (sym (c .match .keys4))
 
--- src/line.rt:62:1
 returns-5 : tie.Need-returns-5
 returns-5 c =
     let n = c .match .rest in sym (letter-none (c .before .args .letter) (n .0 .0 .0 .1) (n .0 .0 .1) (n .0 .1) (n .1))

@@ -1,60 +1,41 @@
 -- `text::line::line_in` meets its contract. Assumes nothing.
-use mathlib.Core.Path.{_≡_, refl, sym, ap, subst, _∙_}
-use mathlib.Core.Bool.{Bool, true, false, _&&_, _||_, not}
-use mathlib.Core.List.{List}
+use mathlib.Core.Path.{_≡_, subst}
+use mathlib.Core.Bool.{true, false, _&&_, _||_, not}
 use Prim.Native.Nat.{ℕ}
 use native.Mathlib.Omega.{arith}
 use borrow.Author.Needs.{needs}
 use borrow.Author.Tests.{not-true, not-false}
-use borrow.Rule.Slice.PartAt.{part-to-end}
 use lib.Dec.{eqb}
-use lib.ListN.{length, getD, drop}
-use Rattle.text.specs.Text.{Line, fields-of}
-use Rattle.text.specs.Parsing.{letter-kind, of-kind, Fields-read, Line-read}
+use lib.ListN.{getD}
 use Rattle.text.proofs.LineBytes.{line-of, short-line, bad-start, Begun, good-start}
 use Rattle.text.proofs.LineRead.{bytes-refused, bytes-taken, no-line-read}
-use borrow.Author.Needs.{needs}
 use Rattle.text.proofs.line.line_in.Statement.{statement}
 use Rattle.text.proofs.line.line_in.Tie as tie
-use Rattle.text.proofs.line.line_in.Reads as reads
-use Rattle.text.proofs.line.line_in.Lts as lts
-use Rattle.text.proofs.line.fields_in.Reads as fields-in-reads
-use Rattle.text.proofs.line.is_of_kind.Reads as is-of-kind-reads
-use Rattle.text.proofs.line.kind_of.Reads as kind-of-reads
-use Rattle.text.proofs.line.no_line.Reads as no-line-reads
 
--- src/line.rt:114:9
 no-line-requires : tie.Need-no-line-requires
 no-line-requires c κs = search needs
 
--- src/line.rt:114:9
 returns : tie.Need-returns
 returns c = no-line-read (line-of (c .before .before .before .args .line .now)) (c .no-line .result) (c .no-line .ensures) (short-line (c .before .before .before .args .line .now) (omega arith))
 
--- src/line.rt:116:24
 shared-slice-read-kind-of : tie.Need-shared-slice-read-kind-of
 shared-slice-read-kind-of c = search needs
 
--- src/line.rt:116:9
 kind-of-requires : tie.Need-kind-of-requires
 kind-of-requires c κs = search needs
 
--- src/line.rt:117:23
 shared-slice-read-if2 : tie.Need-shared-slice-read-if2
 shared-slice-read-if2 c = search needs
 
--- src/line.rt:118:9
 no-line-requires-2 : tie.Need-no-line-requires-2
 no-line-requires-2 c κs = search needs
 
--- src/line.rt:118:9
 returns-2 : tie.Need-returns-2
 returns-2 c =
     let l = c .before .before .before .before .before .before .before .args .line .now in
     no-line-read (line-of l) (c .no-line2 .result) (c .no-line2 .ensures) (bad-start l (omega arith)
     (subst (λ (k : ℕ). (eqb k 4 || not (eqb (getD l 1 0) 44)) ≡ true) (c .before .before .before .kind-of .ensures) (c .before .if2 .taken)))
 
--- src/line.rt:120:23
 -- the letter has a kind and a comma stands behind it
 begun : (c : tie.Else2) → Begun (c .before .before .before .before .before .before .args .line .now)
 begun c =
@@ -64,33 +45,26 @@ begun c =
 sub-fields-in : tie.Need-sub-fields-in
 sub-fields-in c = search needs
 
--- src/line.rt:120:23
 part-fields-in-start : tie.Need-part-fields-in-start
 part-fields-in-start c = search needs
 
--- src/line.rt:120:23
 part-fields-in-end : tie.Need-part-fields-in-end
 part-fields-in-end c = search needs
 
--- src/line.rt:120:9
 fields-in-requires : tie.Need-fields-in-requires
 fields-in-requires c κs = search needs
 
--- src/line.rt:122:17
 is-of-kind-requires : tie.Need-is-of-kind-requires
 is-of-kind-requires c κs = search needs
 
--- src/line.rt:123:9
 no-line-requires-3 : tie.Need-no-line-requires-3
 no-line-requires-3 c κs = search needs
 
--- src/line.rt:123:9
 returns-3 : tie.Need-returns-3
 returns-3 c = no-line-read (line-of (c .before .before .before .before .before .before .before .before .before .before .before .before .before .args .line .now)) (c .no-line3 .result) (c .no-line3 .ensures)
     (bytes-refused (c .before .before .before .before .before .before .before .before .before .before .before .before .before .args .line .now) (begun (c .before .before .before .before .before .before .before)) (c .before .before .before .before .before .before .before .before .before .kind-of .result) (c .before .before .before .before .before .before .before .before .before .kind-of .ensures) (c .before .before .before .before .before .fields-in .result) (c .before .before .before .before .before .fields-in .ensures) (c .before .before .before .is-of-kind .result) (c .before .before .before .is-of-kind .ensures)
     (not-true (c .before .before .before .before .before .fields-in .result .ok && c .before .before .before .is-of-kind .result) (c .before .if3 .taken)))
 
--- src/line.rt:110:1
 returns-4 : tie.Need-returns-4
 returns-4 c =
     bytes-taken (c .before .before .before .before .before .before .before .before .before .before .before .before .args .line .now) (begun (c .before .before .before .before .before .before)) (c .before .before .before .before .before .before .before .before .kind-of .result) (c .before .before .before .before .before .before .before .before .kind-of .ensures) (c .before .before .before .before .fields-in .result) (c .before .before .before .before .fields-in .ensures) (c .before .before .is-of-kind .result) (c .before .before .is-of-kind .ensures)

@@ -4,20 +4,15 @@ use Rattle.text.specs.Parsing.{width}
 use Rattle.text.proofs.LineForms.{width-three}
 use Rattle.text.proofs.line.width.Statement.{statement}
 use Rattle.text.proofs.line.width.Tie as tie
-use Rattle.text.proofs.line.width.Reads as reads
-use Rattle.text.proofs.line.width.Lts as lts
 
--- src/line.rt:75:1
 returns : tie.Need-returns
 unfolding width
 returns c = ap width (sym (c .match .keys1))
 
--- src/line.rt:75:1
 returns-2 : tie.Need-returns-2
 unfolding width
 returns-2 c = ap width (sym (c .match .keys2))
 
--- src/line.rt:75:1
 returns-3 : tie.Need-returns-3
 returns-3 c = sym (width-three (c .before .args .kind) (c .match .rest .0 .1) (c .match .rest .1))
 

@@ -1,9 +1,9 @@
 -- `text::run::append_coordinates` meets its contract. The loop's invariant: the values so far are appended. Assumes nothing.
-use mathlib.Core.Path.{_≡_, refl, sym, ap, subst, _∙_}
+use mathlib.Core.Path.{_≡_, ap, subst, _∙_}
 use mathlib.Core.List.{List, map}
-use Prim.Native.Nat.{ℕ, _+_, _-_, _≤_}
+use Prim.Native.Nat.{ℕ, _-_, _≤_}
 use native.Mathlib.Omega.{arith}
-use lib.ListN.{length, take}
+use lib.ListN.{take}
 use borrow.Kind.Array.{eSInt, good-length}
 use mir.Syntax.{w32}
 use mir.Facts.{toZ-ofZ}
@@ -12,9 +12,6 @@ use Rattle.text.specs.Runs.{Appended}
 use Rattle.text.proofs.Appending.{append-none, append-next, map-same}
 use Rattle.text.proofs.run.append_coordinates.Statement.{statement}
 use Rattle.text.proofs.run.append_coordinates.Tie as tie
-use Rattle.text.proofs.run.append_coordinates.Reads as reads
-use Rattle.text.proofs.run.append_coordinates.Lts as lts
-use Rattle.text.proofs.run.put_coordinate.Reads as put-coordinate-reads
 
 abbrev Inv-loop : tie.InvT-loop
 Inv-loop points₀ count n values at₀ i₀ points at i = (i ≤ n) × Appended points₀ points count (map (λ (z : ℤ). z) (take i values)) at
@@ -22,42 +19,33 @@ Inv-loop points₀ count n values at₀ i₀ points at i = (i ≤ n) × Appended
 abbrev μ-loop : tie.MeasureT-loop
 μ-loop points₀ count n values at₀ i₀ points at i = n - i
 
--- src/run.rt:74:5
 loop-holds : tie.Need-loop-holds Inv-loop μ-loop
 loop-holds c = (omega arith, append-none (c .args .points .now) (c .args .count) (c .pre .0))
 
--- src/run.rt:75:41
 mul-put-coordinate : tie.Need-mul-put-coordinate Inv-loop μ-loop
 mul-put-coordinate c = let h = c .before .before .before .pre .1 in omega arith
 
--- src/run.rt:75:41
 array-copy-out-put-coordinate : tie.Need-array-copy-out-put-coordinate Inv-loop μ-loop
 array-copy-out-put-coordinate c = let h = c .before .before .before .pre .1 in omega arith
 
--- src/run.rt:75:9
 put-coordinate-requires : tie.Need-put-coordinate-requires Inv-loop μ-loop
 put-coordinate-requires c κs = let a = c .before .before .before .loop .inv .1 in let e = a .room in let w = a .within in omega arith
 
--- src/run.rt:74:9
 add-i : tie.Need-add-i Inv-loop μ-loop
 add-i c = omega arith
 
--- src/run.rt:74:5
 loop-less : tie.Need-loop-less Inv-loop μ-loop
 loop-less c = omega arith
 
--- src/run.rt:74:5
 loop-again : tie.Need-loop-again Inv-loop μ-loop
 loop-again c =
     let l = c .before .before .before .before .before .loop in
     let s = c .before .before .before .before .before .before in
     (omega arith, append-next (λ (z : ℤ). z) (s .args .t3) (pos 0) (l .i) (let h = s .pre .1 in let k = good-length (eSInt w32) 5 (s .args .t3) _ (s .good .1 .1 .0) in omega arith) (l .inv .1) _ (toZ-ofZ (record { sfits = c .before .before .put-coordinate-arg2 .given })) (c .before .put-coordinate .ensures))
 
--- src/run.rt:69:1
 same-length : tie.Need-same-length Inv-loop μ-loop
 same-length c = c .before .loop .inv .1 .room
 
--- src/run.rt:69:1
 returns : tie.Need-returns Inv-loop μ-loop
 returns c =
     let l = c .before .loop in

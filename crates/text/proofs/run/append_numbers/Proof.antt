@@ -1,20 +1,17 @@
 -- `text::run::append_numbers` meets its contract. The loop's invariant: the values so far are appended. Assumes nothing.
-use mathlib.Core.Path.{_≡_, ap, subst, _∙_}
-use mathlib.Core.List.{List, map}
+use mathlib.Core.Path.{_≡_, ap, subst}
+use mathlib.Core.List.{map}
 use Prim.Native.Nat.{ℕ, _-_, _≤_}
 use native.Mathlib.Omega.{arith}
 use borrow.Kind.Array.{eSInt, good-length}
-use lib.ListN.{length, take}
-use lib.IntN.{ℤ, pos}
+use lib.ListN.{take}
+use lib.IntN.{pos}
 use mir.Syntax.{w32}
 use mir.Facts.{toZ-ofZ}
 use Rattle.text.specs.Runs.{byte-of, Appended}
 use Rattle.text.proofs.Appending.{append-none, append-next}
 use Rattle.text.proofs.run.append_numbers.Statement.{statement}
 use Rattle.text.proofs.run.append_numbers.Tie as tie
-use Rattle.text.proofs.run.append_numbers.Reads as reads
-use Rattle.text.proofs.run.append_numbers.Lts as lts
-use Rattle.text.proofs.run.put_number.Reads as put-number-reads
 
 abbrev Inv-loop : tie.InvT-loop
 Inv-loop list₀ count n values at₀ i₀ list at i = (i ≤ n) × Appended list₀ list count (map byte-of (take i values)) at
@@ -22,31 +19,24 @@ Inv-loop list₀ count n values at₀ i₀ list at i = (i ≤ n) × Appended lis
 abbrev μ-loop : tie.MeasureT-loop
 μ-loop list₀ count n values at₀ i₀ list at i = n - i
 
--- src/run.rt:109:5
 loop-holds : tie.Need-loop-holds Inv-loop μ-loop
 loop-holds c = (omega arith, append-none (c .before .args .list .now) (c .before .args .count) (c .before .pre .0))
 
--- src/run.rt:110:35
 mul-put-number : tie.Need-mul-put-number Inv-loop μ-loop
 mul-put-number c = let h = c .before .before .before .before .pre .1 in omega arith
 
--- src/run.rt:110:35
 array-copy-out-put-number : tie.Need-array-copy-out-put-number Inv-loop μ-loop
 array-copy-out-put-number c = let h = c .before .before .before .before .pre .1 in omega arith
 
--- src/run.rt:110:9
 put-number-requires : tie.Need-put-number-requires Inv-loop μ-loop
 put-number-requires c κs = let a = c .before .before .before .loop .inv .1 in let e = a .room in let w = a .within in omega arith
 
--- src/run.rt:109:9
 add-i : tie.Need-add-i Inv-loop μ-loop
 add-i c = omega arith
 
--- src/run.rt:109:5
 loop-less : tie.Need-loop-less Inv-loop μ-loop
 loop-less c = omega arith
 
--- src/run.rt:109:5
 loop-again : tie.Need-loop-again Inv-loop μ-loop
 loop-again c =
     let l = c .before .before .before .before .before .before .loop in
@@ -57,11 +47,9 @@ loop-again c =
           (l .inv .1) _ (ap byte-of (toZ-ofZ (record { sfits = c .before .before .before .put-number-arg2 .given }))) (c .before .before .put-number .ensures),
     )
 
--- src/run.rt:104:1
 same-length : tie.Need-same-length Inv-loop μ-loop
 same-length c = c .before .loop .inv .1 .room
 
--- src/run.rt:104:1
 returns : tie.Need-returns Inv-loop μ-loop
 returns c =
     let l = c .before .loop in

@@ -1,23 +1,18 @@
 -- `text::run::byte_of` meets its contract. Assumes nothing.
-use mathlib.Core.Path.{_≡_, ap, _∙_}
+use mathlib.Core.Path.{ap, _∙_}
 use native.Mathlib.Omega.{arith}
 use lib.IntN.{natAbs}
 use mir.Facts.{toZ-ofZ}
 use Rattle.text.proofs.ByteValues.{byte-negative, byte-large, Small, byte-small}
 use Rattle.text.proofs.run.byte_of.Statement.{statement}
 use Rattle.text.proofs.run.byte_of.Tie as tie
-use Rattle.text.proofs.run.byte_of.Reads as reads
-use Rattle.text.proofs.run.byte_of.Lts as lts
 
--- src/run.rt:84:9
 returns : tie.Need-returns
 returns c = byte-negative (c .before .args .v) (rw (toZ-ofZ (c .before .fits .v)) at (c .if1 .taken))
 
--- src/run.rt:87:9
 returns-2 : tie.Need-returns-2
 returns-2 c = byte-large (c .before .before .args .v) (rw (toZ-ofZ (c .before .before .fits .v)) at (c .if2 .taken))
 
--- src/run.rt:89:5
 small : (c : tie.Else2) → Small (c .before .before .args .v)
 small c =
     byte-small (c .before .before .args .v) (rw (toZ-ofZ (c .before .before .fits .v)) at (c .before .if1 .left)) (rw (toZ-ofZ (c .before .before .fits .v)) at (c .if2 .left))
@@ -25,7 +20,6 @@ small c =
 cast-result : tie.Need-cast-result
 cast-result c = let s = small c in rw (toZ-ofZ (c .before .before .fits .v)) (s .above, (let h = s .below in omega arith))
 
--- src/run.rt:80:1
 returns-3 : tie.Need-returns-3
 returns-3 c = ap natAbs (toZ-ofZ (c .before .before .fits .v)) ∙ small c .is
 

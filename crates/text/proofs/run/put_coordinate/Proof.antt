@@ -1,36 +1,26 @@
 -- `text::run::put_coordinate` meets its contract. Assumes nothing.
-use native.Mathlib.Omega.{arith}
 use borrow.Author.Needs.{needs}
 use mir.Facts.{toZ-ofZ}
 use Rattle.text.proofs.Appending.{append-full, append-one}
-use borrow.Author.Needs.{needs}
 use Rattle.text.proofs.run.put_coordinate.Statement.{statement}
 use Rattle.text.proofs.run.put_coordinate.Tie as tie
-use Rattle.text.proofs.run.put_coordinate.Reads as reads
-use Rattle.text.proofs.run.put_coordinate.Lts as lts
 
--- src/run.rt:62:9
 returns : tie.Need-returns
 returns c =
     append-full (c .before .args .points .now) (c .before .args .at) (c .before .pre) (c .if1 .taken) (c .before .args .v)
 
--- src/run.rt:64:5
 mul-v : tie.Need-mul-v
 mul-v c = search needs
 
--- src/run.rt:64:5
 slice-set-from-v : tie.Need-slice-set-from-v
 slice-set-from-v c = search needs
 
--- src/run.rt:65:5
 add-result : tie.Need-add-result
 add-result c = search needs
 
--- src/run.rt:57:1
 same-length : tie.Need-same-length
 same-length c = search needs
 
--- src/run.rt:57:1
 returns-2 : tie.Need-returns-2
 returns-2 c =
     append-one (c .before .args .points .now) (c .before .args .at) (c .before .pre) (c .if1 .left) (c .before .args .v) _ (toZ-ofZ (c .before .fits .v))

@@ -1,39 +1,28 @@
 -- `text::run::put_number` meets its contract. Assumes nothing.
 use mathlib.Core.Path.{ap, _∙_}
-use native.Mathlib.Omega.{arith}
 use borrow.Author.Needs.{needs}
 use mir.Facts.{toZ-ofZ}
 use Rattle.text.specs.Runs.{byte-of}
 use Rattle.text.proofs.Appending.{append-full, append-one}
-use borrow.Author.Needs.{needs}
 use Rattle.text.proofs.run.put_number.Statement.{statement}
 use Rattle.text.proofs.run.put_number.Tie as tie
-use Rattle.text.proofs.run.put_number.Reads as reads
-use Rattle.text.proofs.run.put_number.Lts as lts
-use Rattle.text.proofs.run.byte_of.Reads as byte-of-reads
 
--- src/run.rt:97:9
 returns : tie.Need-returns
 returns c =
     append-full (c .before .before .args .list .now) (c .before .before .args .at) (c .before .before .pre) (c .if1 .taken) (byte-of (c .before .before .args .v))
 
--- src/run.rt:99:16
 byte-of-requires : tie.Need-byte-of-requires
 byte-of-requires c κs = search needs
 
--- src/run.rt:99:5
 slice-write-list : tie.Need-slice-write-list
 slice-write-list c = search needs
 
--- src/run.rt:100:5
 add-result : tie.Need-add-result
 add-result c = search needs
 
--- src/run.rt:92:1
 same-length : tie.Need-same-length
 same-length c = search needs
 
--- src/run.rt:92:1
 returns-2 : tie.Need-returns-2
 returns-2 c =
     append-one (c .before .before .before .args .list .now) (c .before .before .before .args .at) (c .before .before .before .pre) (c .before .if1 .left) (byte-of (c .before .before .before .args .v)) (c .byte-of .result) (c .byte-of .ensures ∙ ap byte-of (toZ-ofZ (c .before .before .before .fits .v)))

@@ -1,20 +1,15 @@
 -- `text::run::read_numbers` meets its contract. The loop's invariant: what is listed so far and the lines left make up all. Assumes nothing.
-use mathlib.Core.Path.{_≡_, refl, ap, _∙_}
+use mathlib.Core.Path.{ap, _∙_}
 use mathlib.Core.List.{map}
 use Prim.Native.Nat.{ℕ, _-_}
 use native.Mathlib.Omega.{arith}
 use borrow.Author.Tests.{not-true, not-false}
 use lib.ListN.{length, take}
-use Rattle.text.specs.Parsing.{width}
 use Rattle.text.specs.Runs.{byte-of, byte-value, Line-at}
 use Rattle.text.proofs.LineForms.{width-most}
 use Rattle.text.proofs.RunLoop.{Reading, reading-none, reading-done, reading-more, bytes-listed}
 use Rattle.text.proofs.run.read_numbers.Statement.{statement}
 use Rattle.text.proofs.run.read_numbers.Tie as tie
-use Rattle.text.proofs.run.read_numbers.Reads as reads
-use Rattle.text.proofs.run.read_numbers.Lts as lts
-use Rattle.text.proofs.run.append_numbers.Reads as append-numbers-reads
-use Rattle.text.proofs.run.next_line.Reads as next-line-reads
 
 abbrev Inv-loop : tie.InvT-loop
 Inv-loop text from kind n list₀ at₀ count₀ list at count = Reading byte-value kind text from list₀ list count at
@@ -22,25 +17,20 @@ Inv-loop text from kind n list₀ at₀ count₀ list at count = Reading byte-va
 abbrev μ-loop : tie.MeasureT-loop
 μ-loop text from kind n list₀ at₀ count₀ list at count = length text - at
 
--- src/run.rt:140:5
 loop-holds : tie.Need-loop-holds Inv-loop μ-loop
 loop-holds c =
     let s = c .before .before in reading-none byte-value (s .args .kind) (s .args .text .now) (s .args .from) (s .args .list .now) (s .pre .0)
 
--- src/run.rt:141:13
 next-line-requires : tie.Need-next-line-requires Inv-loop μ-loop
 next-line-requires c κs = c .loop .inv .start
 
--- src/run.rt:143:13
 same-length : tie.Need-same-length Inv-loop μ-loop
 same-length c = c .before .before .before .loop .inv .room
 
--- src/run.rt:143:13
 returns : tie.Need-returns Inv-loop μ-loop
 returns c =
     let n = c .before .before .next-line in reading-done (c .before .before .before .loop .inv) (n .ensures .none (not-true (n .result .ok) (c .if1 .taken)))
 
--- src/run.rt:146:9
 append-numbers-requires : tie.Need-append-numbers-requires Inv-loop μ-loop
 append-numbers-requires c κs =
     let i = c .before .before .before .before .before .loop .inv in
@@ -49,7 +39,6 @@ append-numbers-requires c κs =
     let k = c .before .before .before .before .before .before .before .before .pre .1 in
     let m = width-most (c .before .before .before .before .before .before .before .before .args .kind) in (omega arith, omega arith)
 
--- src/run.rt:140:5
 -- the line that was read
 line-read : (c : tie.After-slice-known2 Inv-loop μ-loop) → Line-at (c .before .before .before .before .before .before .before .before .before .before .before .args .kind) (c .before .before .before .before .before .before .before .before .before .before .before .args .text .now) (c .before .before .before .before .before .before .before .before .loop .at) (c .before .before .before .before .before .before .before .next-line .result)
 line-read c = let n = c .before .before .before .before .before .before .before .next-line in n .ensures .some (not-false (n .result .ok) (c .before .before .before .before .before .if1 .left))
@@ -57,7 +46,6 @@ line-read c = let n = c .before .before .before .before .before .before .before 
 loop-less : tie.Need-loop-less Inv-loop μ-loop
 loop-less c = let l = line-read c in let a = l .later in let d = l .next .inside in omega arith
 
--- src/run.rt:140:5
 loop-again : tie.Need-loop-again Inv-loop μ-loop
 loop-again c =
     let s = c .before .before .before .before .before .before .before .before .before .before .before in

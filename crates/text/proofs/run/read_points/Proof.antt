@@ -1,5 +1,4 @@
 -- `text::run::read_points` meets its contract. The loop's invariant: what is listed so far and the lines left make up all. Assumes nothing.
-use mathlib.Core.Path.{_≡_, refl}
 use Prim.Native.Nat.{_-_}
 use native.Mathlib.Omega.{arith}
 use borrow.Author.Tests.{not-true, not-false}
@@ -10,10 +9,6 @@ use Rattle.text.specs.Runs.{Line-at}
 use Rattle.text.proofs.RunLoop.{Reading, reading-none, reading-done, reading-more}
 use Rattle.text.proofs.run.read_points.Statement.{statement}
 use Rattle.text.proofs.run.read_points.Tie as tie
-use Rattle.text.proofs.run.read_points.Reads as reads
-use Rattle.text.proofs.run.read_points.Lts as lts
-use Rattle.text.proofs.run.append_coordinates.Reads as append-coordinates-reads
-use Rattle.text.proofs.run.next_line.Reads as next-line-reads
 
 abbrev Inv-loop : tie.InvT-loop
 Inv-loop text points₀ at₀ count₀ points at count = Reading coordinate 0 text 0 points₀ points count at
@@ -21,29 +16,23 @@ Inv-loop text points₀ at₀ count₀ points at count = Reading coordinate 0 te
 abbrev μ-loop : tie.MeasureT-loop
 μ-loop text points₀ at₀ count₀ points at count = length text - at
 
--- src/run.rt:122:5
 loop-holds : tie.Need-loop-holds Inv-loop μ-loop
 loop-holds c = reading-none coordinate 0 (c .before .args .text .now) 0 (c .before .args .points .now) (c .before .pre)
 
--- src/run.rt:123:13
 next-line-requires : tie.Need-next-line-requires Inv-loop μ-loop
 next-line-requires c κs = c .loop .inv .start
 
--- src/run.rt:125:13
 same-length : tie.Need-same-length Inv-loop μ-loop
 same-length c = c .before .before .before .loop .inv .room
 
--- src/run.rt:125:13
 returns : tie.Need-returns Inv-loop μ-loop
 returns c =
     let n = c .before .before .next-line in reading-done (c .before .before .before .loop .inv) (n .ensures .none (not-true (n .result .ok) (c .if1 .taken)))
 
--- src/run.rt:128:9
 append-coordinates-requires : tie.Need-append-coordinates-requires Inv-loop μ-loop
 append-coordinates-requires c κs =
     let i = c .before .before .before .before .before .loop .inv in let r = i .room in let w = i .within in (omega arith, omega arith)
 
--- src/run.rt:122:5
 -- the line that was read
 line-read : (c : tie.After-points Inv-loop μ-loop) → Line-at 0 (c .before .before .before .before .before .before .before .before .before .args .text .now) (c .before .before .before .before .before .before .before .loop .at) (c .before .before .before .before .before .before .next-line .result)
 line-read c = let n = c .before .before .before .before .before .before .next-line in n .ensures .some (not-false (n .result .ok) (c .before .before .before .before .if1 .left))
@@ -51,7 +40,6 @@ line-read c = let n = c .before .before .before .before .before .before .next-li
 loop-less : tie.Need-loop-less Inv-loop μ-loop
 loop-less c = let l = line-read c in let a = l .later in let d = l .next .inside in omega arith
 
--- src/run.rt:122:5
 loop-again : tie.Need-loop-again Inv-loop μ-loop
 unfolding width
 loop-again c =

@@ -1,14 +1,12 @@
 -- `text::table::clear` meets its contract. The loop's invariant: the first entries are unmeasured. Assumes nothing.
-use mathlib.Core.Path.{_≡_, refl, sym, ap, subst, _∙_}
+use mathlib.Core.Path.{ap, _∙_}
 use Prim.Native.Nat.{ℕ, _-_}
 use native.Mathlib.Omega.{arith}
-use lib.ListN.{length, take, replicate}
+use lib.ListN.{length, replicate}
 use lib.IntN.{negsuc}
 use Rattle.text.proofs.Clearing.{Cleared, cleared-none, cleared-more, cleared-all}
 use Rattle.text.proofs.table.clear.Statement.{statement}
 use Rattle.text.proofs.table.clear.Tie as tie
-use Rattle.text.proofs.table.clear.Reads as reads
-use Rattle.text.proofs.table.clear.Lts as lts
 
 abbrev Inv-loop : tie.InvT-loop
 Inv-loop table₀ i₀ i-end table i = Cleared table₀ table i
@@ -16,35 +14,27 @@ Inv-loop table₀ i₀ i-end table i = Cleared table₀ table i
 abbrev μ-loop : tie.MeasureT-loop
 μ-loop table₀ i₀ i-end table i = length table₀ - i
 
--- src/table.rt:25:5
 loop-holds : tie.Need-loop-holds Inv-loop μ-loop
 loop-holds c = cleared-none (c .args .table .now)
 
--- src/table.rt:26:9
 mul-table : tie.Need-mul-table Inv-loop μ-loop
 mul-table c = let h = c .before .before .pre in omega arith
 
--- src/table.rt:26:9
 slice-set-of-table : tie.Need-slice-set-of-table Inv-loop μ-loop
 slice-set-of-table c = let l = c .before .loop .inv in let r = l .room in omega arith
 
--- src/table.rt:25:9
 add-i : tie.Need-add-i Inv-loop μ-loop
 add-i c = omega arith
 
--- src/table.rt:25:5
 loop-less : tie.Need-loop-less Inv-loop μ-loop
 loop-less c = omega arith
 
--- src/table.rt:25:5
 loop-again : tie.Need-loop-again Inv-loop μ-loop
 loop-again c = cleared-more (c .before .loop .inv) (let l = c .before .loop .inv in let r = l .room in omega arith)
 
--- src/table.rt:22:1
 same-length : tie.Need-same-length Inv-loop μ-loop
 same-length c = c .before .loop .inv .room
 
--- src/table.rt:22:1
 returns : tie.Need-returns Inv-loop μ-loop
 returns c =
     cleared-all (c .before .loop .inv) (omega arith) ∙ ap (λ (n : ℕ). replicate n (negsuc 0)) (c .before .before .pre)

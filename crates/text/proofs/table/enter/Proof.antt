@@ -1,5 +1,5 @@
 -- `text::table::enter` meets its contract. Assumes nothing.
-use mathlib.Core.Path.{_≡_, sym, ap, subst, _∙_}
+use mathlib.Core.Path.{_≡_, sym, subst}
 use mathlib.Core.Bool.{true}
 use Prim.Native.Nat.{_<_}
 use native.Mathlib.Omega.{arith}
@@ -7,29 +7,20 @@ use borrow.Author.Needs.{needs}
 use lib.ListN.{length}
 use mir.Facts.{toZ-ofZ}
 use Rattle.geometry.specs.declared.tetrahedron.Four.{Four}
-use Rattle.laws.specs.Laws.{rising, choose}
-use Rattle.laws.specs.Unmeasured.{Ordered}
+use Rattle.laws.specs.Laws.{rising}
 use Rattle.laws.proofs.Places.{place-below}
 use Rattle.laws.proofs.TablePlace.{fours-most}
 use Rattle.text.proofs.Entering.{ordered-of, absent-entry, second-entry, first-entry}
-use borrow.Author.Needs.{needs}
 use Rattle.text.proofs.table.enter.Statement.{statement}
 use Rattle.text.proofs.table.enter.Tie as tie
-use Rattle.text.proofs.table.enter.Reads as reads
-use Rattle.text.proofs.table.enter.Lts as lts
-use Rattle.laws.proofs.table.place.Reads as place-reads
-use Rattle.text.proofs.table.four_of.Reads as four-of-reads
 
--- src/table.rt:62:9
 four-of-requires : tie.Need-four-of-requires
 four-of-requires c κs = search needs
 
--- src/table.rt:64:9
 returns : tie.Need-returns
 returns c =
     let s = c .before .before .before in absent-entry (s .args .n) (s .args .t3) (s .args .table .now) (c .before .before .four-of .result) (c .before .before .four-of .ensures) (c .if1 .taken)
 
--- src/table.rt:66:9
 -- the four rises and is present
 rises : (c : tie.Else1) → rising (c .before .before .four-of .result) ≡ true
 rises c = subst (λ (f : Four). rising f ≡ true) (sym (c .before .before .four-of .ensures)) (c .before .before .before .pre .2)
@@ -37,7 +28,6 @@ rises c = subst (λ (f : Four). rising f ≡ true) (sym (c .before .before .four
 place-requires : tie.Need-place-requires
 place-requires c κs = (c .before .before .before .pre .1, ordered-of (c .before .before .before .args .n) (c .before .before .four-of .result) (rises c) (c .if1 .left))
 
--- src/table.rt:67:13
 has-room : (c : tie.After-place) → c .place .result < length (c .before .before .before .before .args .table .now)
 has-room c =
     let n = c .before .before .before .before .args .n in
@@ -49,34 +39,27 @@ has-room c =
 mul-if2 : tie.Need-mul-if2
 mul-if2 c = let h = has-room c in let l = c .before .before .before .before .pre .0 in omega arith
 
--- src/table.rt:67:13
 slice-copy-out-if2 : tie.Need-slice-copy-out-if2
 slice-copy-out-if2 c = has-room c
 
--- src/table.rt:68:9
 returns-2 : tie.Need-returns-2
 returns-2 c =
     let s = c .before .before .before .before .before .before in
     second-entry (s .args .n) (s .args .t3) (s .args .table .now) (c .before .before .before .before .before .four-of .result) (c .before .before .before .before .before .four-of .ensures) (c .before .before .place .result) (c .before .before .place .ensures) (has-room (c .before .before))
     (rw (toZ-ofZ (record { sfits = c .before .if22 .given })) at (c .if2 .taken))
 
--- src/table.rt:70:13
 array-copy-out-v : tie.Need-array-copy-out-v
 array-copy-out-v c = search needs
 
--- src/table.rt:71:5
 mul-v : tie.Need-mul-v
 mul-v c = let h = has-room (c .before .before .before) in let l = c .before .before .before .before .before .before .before .pre .0 in omega arith
 
--- src/table.rt:71:5
 slice-set-from-v : tie.Need-slice-set-from-v
 slice-set-from-v c = has-room (c .before .before .before)
 
--- src/table.rt:58:1
 same-length : tie.Need-same-length
 same-length c = search needs
 
--- src/table.rt:58:1
 returns-3 : tie.Need-returns-3
 returns-3 c =
     let s = c .before .before .before .before .before .before .before in

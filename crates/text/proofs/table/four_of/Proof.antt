@@ -5,46 +5,33 @@ use mir.Facts.{toZ-ofZ}
 use Rattle.geometry.specs.Space.{four}
 use Rattle.laws.proofs.FourOrder.{four-equal}
 use Rattle.text.specs.Entries.{whole, four-of}
-use borrow.Author.Needs.{needs}
 use Rattle.text.proofs.table.four_of.Statement.{statement}
 use Rattle.text.proofs.table.four_of.Tie as tie
-use Rattle.text.proofs.table.four_of.Reads as reads
-use Rattle.text.proofs.table.four_of.Lts as lts
-use Rattle.text.proofs.table.size.Reads as size-reads
 
--- src/table.rt:50:18
 array-copy-out-size : tie.Need-array-copy-out-size
 array-copy-out-size c = search needs
 
--- src/table.rt:50:9
 size-requires : tie.Need-size-requires
 size-requires c κs = search needs
 
--- src/table.rt:51:18
 array-copy-out-size-2 : tie.Need-array-copy-out-size-2
 array-copy-out-size-2 c = search needs
 
--- src/table.rt:51:9
 size-requires-2 : tie.Need-size-requires-2
 size-requires-2 c κs = search needs
 
--- src/table.rt:52:18
 array-copy-out-size-3 : tie.Need-array-copy-out-size-3
 array-copy-out-size-3 c = search needs
 
--- src/table.rt:52:9
 size-requires-3 : tie.Need-size-requires-3
 size-requires-3 c κs = search needs
 
--- src/table.rt:53:18
 array-copy-out-size-4 : tie.Need-array-copy-out-size-4
 array-copy-out-size-4 c = search needs
 
--- src/table.rt:53:9
 size-requires-4 : tie.Need-size-requires-4
 size-requires-4 c κs = search needs
 
--- src/table.rt:47:1
 returns : tie.Need-returns
 unfolding four-of four
 returns c =

@@ -1,21 +1,15 @@
 -- `text::table::fours_of` meets its contract. Assumes nothing.
 use borrow.Author.Needs.{needs}
 use Rattle.text.proofs.FourPlaces.{counts-right}
-use borrow.Author.Needs.{needs}
 use Rattle.text.proofs.table.fours_of.Statement.{statement}
 use Rattle.text.proofs.table.fours_of.Tie as tie
-use Rattle.text.proofs.table.fours_of.Reads as reads
-use Rattle.text.proofs.table.fours_of.Lts as lts
 
--- src/table.rt:38:5
 mul-result : tie.Need-mul-result
 mul-result c = search needs
 
--- src/table.rt:38:5
 array-read-result : tie.Need-array-read-result
 array-read-result c = search needs
 
--- src/table.rt:31:1
 returns : tie.Need-returns
 returns c = counts-right (c .args .n) (c .pre)
 

@@ -1,5 +1,5 @@
 -- `text::table::read_table` meets its contract. The loop's invariant: the table so far has the entries of the lines read. Assumes nothing.
-use mathlib.Core.Path.{_≡_, refl, sym, ap, subst, _∙_}
+use mathlib.Core.Path.{_≡_, sym, subst, _∙_}
 use mathlib.Core.Bool.{true}
 use Prim.Native.Nat.{_-_}
 use native.Mathlib.Omega.{arith}
@@ -12,10 +12,6 @@ use Rattle.text.proofs.QNumbers.{four-is, line-rises}
 use Rattle.text.proofs.TableLoop.{Tabling, tabling-none, tabling-more, tabling-done}
 use Rattle.text.proofs.table.read_table.Statement.{statement}
 use Rattle.text.proofs.table.read_table.Tie as tie
-use Rattle.text.proofs.table.read_table.Reads as reads
-use Rattle.text.proofs.table.read_table.Lts as lts
-use Rattle.text.proofs.run.next_line.Reads as next-line-reads
-use Rattle.text.proofs.table.enter.Reads as enter-reads
 
 abbrev Inv-loop : tie.InvT-loop
 Inv-loop text from n table₀ at₀ good₀ table at good = Tabling n text from table at good × (length table₀ ≡ 1820)
@@ -23,28 +19,23 @@ Inv-loop text from n table₀ at₀ good₀ table at good = Tabling n text from 
 abbrev μ-loop : tie.MeasureT-loop
 μ-loop text from n table₀ at₀ good₀ table at good = length text - at
 
--- src/table.rt:82:5
 loop-holds : tie.Need-loop-holds Inv-loop μ-loop
 loop-holds c =
     let s = c .before in
     let t = tabling-none (s .args .n) (s .pre .1) (s .args .text .now) (s .args .from) (s .args .table .now) (s .pre .2) (s .pre .0) in
     (t, t .room)
 
--- src/table.rt:83:13
 next-line-requires : tie.Need-next-line-requires Inv-loop μ-loop
 next-line-requires c κs = c .loop .inv .0 .start
 
--- src/table.rt:85:13
 same-length : tie.Need-same-length Inv-loop μ-loop
 same-length c = let i = c .before .before .before .loop .inv in i .0 .room ∙ sym (i .1)
 
--- src/table.rt:85:13
 returns : tie.Need-returns Inv-loop μ-loop
 returns c =
     let n = c .before .before .next-line in
     tabling-done (c .before .before .before .before .before .pre .1) (c .before .before .before .loop .inv .0) (n .ensures .none (not-true (n .result .ok) (c .if1 .taken)))
 
--- src/table.rt:88:23
 -- the line that was read
 line-read : (c : tie.Else1 Inv-loop μ-loop) → Line-at 3 (c .before .before .before .before .before .args .text .now) (c .before .before .before .loop .at) (c .before .before .next-line .result)
 line-read c = let n = c .before .before .next-line in n .ensures .some (not-false (n .result .ok) (c .if1 .left))
@@ -57,11 +48,9 @@ enter-requires c κs =
       subst (λ (f : Four). rising f ≡ true) (sym (four-is (c .before .before .before .before .before .before .before .args .text .now) (c .before .before .before .before .before .loop .at) (c .before .before .before .before .next-line .result) l)) (line-rises (l .line) (l .right)),
     )
 
--- src/table.rt:82:5
 loop-less : tie.Need-loop-less Inv-loop μ-loop
 loop-less c = let l = line-read (c .before .before .before .before) in let a = l .later in let d = l .next .inside in omega arith
 
--- src/table.rt:82:5
 loop-again : tie.Need-loop-again Inv-loop μ-loop
 loop-again c = (
   tabling-more (c .before .before .before .before .before .before .before .before .before .pre .1) (c .before .before .before .before .before .before .before .loop .inv .0) (c .before .before .before .before .before .before .next-line .result) (line-read (c .before .before .before .before)) _ (c .before .enter .result) (c .before .enter .ensures),

@@ -6,10 +6,7 @@ use mir.Facts.{toZ-ofZ}
 use Rattle.text.proofs.Entering.{whole-negative, Whole, whole-positive}
 use Rattle.text.proofs.table.size.Statement.{statement}
 use Rattle.text.proofs.table.size.Tie as tie
-use Rattle.text.proofs.table.size.Reads as reads
-use Rattle.text.proofs.table.size.Lts as lts
 
--- src/table.rt:44:27
 whole-here : (c : tie.Else1) → Whole (c .before .args .v)
 whole-here c = whole-positive (c .before .args .v) (rw (toZ-ofZ (c .before .fits .v)) at (c .if1 .left))
 
@@ -17,11 +14,9 @@ cast-result : tie.Need-cast-result
 cast-result c =
     let w = whole-here c in rw (toZ-ofZ (c .before .fits .v)) (w .above, (let h = w .bound in let k = c .before .fits .v .sfits in omega arith))
 
--- src/table.rt:41:1
 returns : tie.Need-returns
 returns c = whole-negative (c .before .args .v) (rw (toZ-ofZ (c .before .fits .v)) at (c .if1 .taken))
 
--- src/table.rt:41:1
 returns-2 : tie.Need-returns-2
 returns-2 c = ap natAbs (toZ-ofZ (c .before .fits .v)) ∙ whole-here c .is
 

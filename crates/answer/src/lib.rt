@@ -1,0 +1,2 @@
+// A job's printout. Assumes nothing.
+pub mod printout;
