@@ -164,7 +164,7 @@ int main(void) {
     timed("the checks of 5 points", call_present_5, anywhere);
     timed("the checks of 8 points", call_present_8, anywhere);
     timed("D, and the checks", call_volume, anywhere);
-    timed("inside, and the checks twice", call_inside, anywhere);
+    timed("inside, and the checks", call_inside, anywhere);
     timed("apart by the first direction, checks twice", call_apart, parted_first);
     timed("not apart: all 44 directions, checks twice", call_apart, unparted);
     timed("apart or not, random pairs, checks twice", call_apart, anywhere);
