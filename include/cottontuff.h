@@ -2,7 +2,7 @@
  *
  * Every function takes any lists and answers: a filling, a verdict, or one of the numbers below. The caller owns all memory; nothing is kept, allocated or freed.
  * A list is a pointer and its count of elements (not of points or triangles). A refusal changes no byte of a lent buffer.
- * The search uses up to 0.7 MB of stack: call it on a thread that has 1.5 MB. */
+ * The deepest stack measured for the search is 713,256 bytes (docs/BENCHMARKS.md): call it on a thread that has 1.5 MB. */
 #ifndef COTTONTUFF_H
 #define COTTONTUFF_H
 
