@@ -1,3 +1,3 @@
-pub mod Deciding
 pub mod Printing
+pub mod Prefixes
 pub mod Reading

@@ -19,7 +19,7 @@ use Rattle.search.proofs.Answers.{searched-of, refused-of}
 use Rattle.text.specs.Print.{filling-out, refusal-out, choice-out, Printed-lists}
 use Rattle.text.specs.Printable.{Filled}
 use Rattle.text.proofs.Accepted.{filled, filling-out-kept, fours-in-front}
-use Rattle.answer.proofs.Deciding.{choice}
+use Rattle.laws.proofs.Deciding.{choice}
 
 as-refused : (l : Lists) (n m : ℕ) → (n ≡ 0 → ⊥) → m ≡ n → Printed-lists n l (refusal-out m)
 unfolding Printed-lists

@@ -1,34 +1,79 @@
-// From a job to its printout: the search's filling or its refusal. Assumes nothing.
-use search::search::search;
-use text::print::print_filling;
+// From text to printout: one function for any bytes and any buffer. Assumes nothing.
+use crate::lists::print_lists;
 use text::print::print_refusal;
+use text::read::Read;
+use text::read::read_job;
+ghost use mathlib.Core.Path.{_≡_};
 ghost use Prim.Native.Nat.{_≤_};
 ghost use lib.ListN.{length};
-ghost use Rattle.answer.specs.Answer.{Lists-printed};
+ghost use Rattle.text.specs.Reading.{handed, Job-read};
+ghost use Rattle.answer.specs.Answer.{Lists-printed, Text-printed, Answered, Read-fits};
 
-// The printout of the job that the lists are.
-pub fn print_lists(
-    points: &[i32],
-    triangles: &[u8],
-    kept: &[u8],
-    table: &[i32],
-    out: &mut [u8],
-) -> usize
-    requires { ⌜ 43695 ≤ length (now out) ⌝ }
-    ensures { λ r. ⌜ Lists-printed (record { points = now (points .entry); triangles = now (triangles .entry); kept = now (kept .entry); table = now (table .entry) }) (now (out .entry)) r (now (out .exit)) ⌝ }
+// The bytes that hold every printout.
+pub const ROOM: usize = 43_695;
+
+// What was read, with the arrays that the lists stand first in.
+pub struct JobArrays {
+    pub read: Read,
+    pub points: [i32; 51],
+    pub triangles: [u8; 1683],
+    pub kept: [u8; 242],
+    pub table: [i32; 1820],
+}
+
+fn read_arrays(text: &[u8]) -> JobArrays
+    ensures { λ r. ⌜ Job-read (now (text .entry)) (r .read) (r .points) (r .triangles) (r .kept) (r .table) ⌝ }
 {
-    let mut answer: [u8; 7280] = [0; 7280];
-    let found = search(points, triangles, kept, table, &mut answer);
-    if found.number != 0 {
-        return print_refusal(found.number, out);
-    }
-    print_filling(
+    let mut points: [i32; 51] = [0; 51];
+    let mut triangles: [u8; 1683] = [0; 1683];
+    let mut kept: [u8; 242] = [0; 242];
+    let mut table: [i32; 1820] = [0; 1820];
+    let read = read_job(text, &mut points, &mut triangles, &mut kept, &mut table);
+    JobArrays {
+        read,
         points,
         triangles,
+        kept,
         table,
-        &answer,
-        found.count,
-        found.worst,
-        out,
-    )
+    }
+}
+
+// The printout of the lists that were read.
+fn print_arrays(a: JobArrays, out: &mut [u8]) -> usize
+    requires { ⌜ Read-fits (a .read) × (43695 ≤ length (now out)) ⌝ }
+    ensures { λ r. ⌜ Lists-printed (handed (a .read) (a .points) (a .triangles) (a .kept) (a .table)) (now (out .entry)) r (now (out .exit)) ⌝ }
+{
+    let read = a.read;
+    let points = a.points;
+    let triangles = a.triangles;
+    let kept = a.kept;
+    let table = a.table;
+    let p = read.points;
+    let t = read.triangles;
+    let e = read.kept;
+    let q = read.table;
+    print_lists(&points[..p], &triangles[..t], &kept[..e], &table[..q], out)
+}
+
+// The printout of a text into a buffer that holds every printout.
+fn print_whole(text: &[u8], out: &mut [u8]) -> usize
+    requires { ⌜ 43695 ≤ length (now out) ⌝ }
+    ensures { λ r. ⌜ Text-printed (now (text .entry)) (now (out .entry)) r (now (out .exit)) ⌝ }
+{
+    let a = read_arrays(text);
+    let read = a.read;
+    if !read.ok {
+        return print_refusal(1, out);
+    }
+    print_arrays(a, out)
+}
+
+// THE PRINTOUT of any bytes, at the start of the buffer, and how many bytes it has. A buffer under 43,695 bytes is left as it is, and the answer is 0.
+pub fn print_text(text: &[u8], out: &mut [u8]) -> usize
+    ensures { λ r. ⌜ Answered (now (text .entry)) (now (out .entry)) r (now (out .exit)) ⌝ }
+{
+    if out.len() < ROOM {
+        return 0;
+    }
+    print_whole(text, out)
 }

@@ -1,12 +1,19 @@
 // The kernel for C and Rust. Assumes nothing. No function has a `requires`: each takes any lists and refuses what it can't use.
 // A slice is a pointer and a length; a refusal changes no byte of a lent buffer.
+pub mod measured;
+
 ghost use mathlib.Core.Path.{_≡_};
 ghost use Rattle.laws.specs.Check.{job-refusal};
 ghost use Rattle.laws.specs.Judge.{Judge-says};
 ghost use Rattle.search.specs.Entry.{Search-says};
+ghost use Rattle.answer.specs.Answer.{Answered};
+ghost use Rattle.cottontuff.specs.Measured.{measured-for-c};
+use answer::printout::print_text;
 use laws::check::check_job;
 use laws::judge::Verdict;
 use laws::judge::judge;
+use measured::Measured;
+use measured::measure_for_c;
 use search::search::Found;
 use search::search::search;
 
@@ -49,4 +56,20 @@ pub extern "C" fn cottontuff_search(
     ensures { λ r. ⌜ Search-says (now (points .entry)) (now (triangles .entry)) (now (kept .entry)) (now (table .entry)) r (now (answer .entry)) (now (answer .exit)) ⌝ }
 {
     search(points, triangles, kept, table, answer)
+}
+
+// The measure of a tetrahedron by its twelve coordinates: D, S, the shape number and its millionths; or 3, then 16.
+#[no_mangle]
+pub extern "C" fn cottontuff_measure(coordinates: &[i32]) -> Measured
+    ensures { λ r. ⌜ r ≡ measured-for-c (now (coordinates .entry)) ⌝ }
+{
+    measure_for_c(coordinates)
+}
+
+// The printout of a job's text, at the start of the buffer, and how many bytes it has. A buffer under 43,695 bytes is left as it is, and the answer is 0.
+#[no_mangle]
+pub extern "C" fn cottontuff_print(text: &[u8], out: &mut [u8]) -> usize
+    ensures { λ r. ⌜ Answered (now (text .entry)) (now (out .entry)) r (now (out .exit)) ⌝ }
+{
+    print_text(text, out)
 }

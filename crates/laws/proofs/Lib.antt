@@ -22,6 +22,7 @@ pub mod Owners
 pub mod Rigidity
 pub mod OpenFaces
 pub mod Best
+pub mod Deciding
 pub mod Promises
 pub mod Points
 pub mod Signed

@@ -36,7 +36,7 @@ fn is_same_coordinate(points: &[i32], i: usize, k: usize) -> bool
 
 // Whether the points p and q coincide.
 fn coincide(points: &[i32], p: usize, q: usize) -> bool
-    requires { ⌜ (length (now points) ≤ 48) × (p < length (now points) / 3) × (q < length (now points) / 3) ⌝ }
+    requires { ⌜ (length (now points) ≤ 192) × (p < length (now points) / 3) × (q < length (now points) / 3) ⌝ }
     ensures { λ r. ⌜ r ≡ same-place (point (points-in (now (points .entry))) p) (point (points-in (now (points .entry))) q) ⌝ }
 {
     is_same_coordinate(points, p * 3, q * 3)
@@ -46,7 +46,7 @@ fn coincide(points: &[i32], p: usize, q: usize) -> bool
 
 // Whether a point after p lies in the place of p.
 fn is_place_taken(points: &[i32], p: usize) -> bool
-    requires { ⌜ (length (now points) ≤ 48) × (p < length (now points) / 3) ⌝ }
+    requires { ⌜ (length (now points) ≤ 192) × (p < length (now points) / 3) ⌝ }
     ensures { λ r. ⌜ r ≡ place-taken (point (points-in (now (points .entry))) p) (drop (suc p) (points-in (now (points .entry)))) ⌝ }
 {
     for q in p + 1..points.len() / 3 {
@@ -58,8 +58,8 @@ fn is_place_taken(points: &[i32], p: usize) -> bool
 }
 
 // Number 4: two points in one place.
-fn two_alike(points: &[i32]) -> bool
-    requires { ⌜ length (now points) ≤ 48 ⌝ }
+pub fn two_alike(points: &[i32]) -> bool
+    requires { ⌜ length (now points) ≤ 192 ⌝ }
     ensures { λ r. ⌜ r ≡ two-alike (points-in (now (points .entry))) ⌝ }
 {
     for p in 0..points.len() / 3 {

@@ -126,7 +126,7 @@ returns-2 : tie.Need-returns-2
 returns-2 c = stop (passed-2 (c .before .before)) (link at-3 (start-2 (c .before .before))) (c .before .any-far .ensures) (c .if2 .taken)
 
 two-alike-requires : tie.Need-two-alike-requires
-two-alike-requires c κs = few-points (c .before .before) .short
+two-alike-requires c κs = let s = few-points (c .before .before) .short in omega (arith, s)
 
 returns-3 : tie.Need-returns-3
 returns-3 c = stop (passed-3 (c .before .before)) (link at-4 (start-3 (c .before .before))) (c .before .two-alike .ensures) (c .if3 .taken)

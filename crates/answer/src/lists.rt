@@ -1,0 +1,34 @@
+// From a job to its printout: the search's filling or its refusal. Assumes nothing.
+use search::search::search;
+use text::print::print_filling;
+use text::print::print_refusal;
+ghost use Prim.Native.Nat.{_≤_};
+ghost use lib.ListN.{length};
+ghost use Rattle.answer.specs.Answer.{Lists-printed};
+
+// The printout of the job that the lists are.
+pub(crate) fn print_lists(
+    points: &[i32],
+    triangles: &[u8],
+    kept: &[u8],
+    table: &[i32],
+    out: &mut [u8],
+) -> usize
+    requires { ⌜ 43695 ≤ length (now out) ⌝ }
+    ensures { λ r. ⌜ Lists-printed (record { points = now (points .entry); triangles = now (triangles .entry); kept = now (kept .entry); table = now (table .entry) }) (now (out .entry)) r (now (out .exit)) ⌝ }
+{
+    let mut answer: [u8; 7280] = [0; 7280];
+    let found = search(points, triangles, kept, table, &mut answer);
+    if found.number != 0 {
+        return print_refusal(found.number, out);
+    }
+    print_filling(
+        points,
+        triangles,
+        table,
+        &answer,
+        found.count,
+        found.worst,
+        out,
+    )
+}

@@ -1,0 +1,75 @@
+-- The sum of D over fours none of which is flat is the total of their volumes; and a mesh is the fours of C and the rest. Assumes nothing.
+use mathlib.Core.Path.{_≡_, refl, sym, ap, _∙_}
+use mathlib.Core.Bool.{Bool, true, false, not, cond}
+use mathlib.Core.List.{List, [], _∷_, _++_}
+use Prim.Native.Nat.{ℕ, zero, suc, _+_}
+use lib.ListN.{length}
+use lib.IntN.{ℤ, pos, negsuc, negℤ, _+ℤ_, natAbs}
+use Rattle.geometry.specs.Space.{V3, four, point, points-in, D, turned, above, zero-z}
+use Rattle.geometry.specs.Vectors.{value}
+use Rattle.geometry.specs.Measure.{D-of, magnitude}
+use Rattle.geometry.specs.declared.tetrahedron.Four.{Four}
+use Rattle.geometry.proofs.Measuring.{magnitude-value}
+use Rattle.geometry.proofs.Volume.{det-swapped, turned-positive}
+use Rattle.laws.specs.Fours.{from}
+use Rattle.laws.proofs.Lists.{Each, none, more}
+use Rattle.laws.proofs.Sums.{total}
+use Rattle.laws.proofs.Volume.{four-volume}
+use Rattle.laws.proofs.Interleaving.{Interleaving, done, left, right}
+use Rattle.bench_rules.specs.Bench.{pick, nth, parts}
+use Rattle.bench_rules.specs.History.{sum-of-D}
+use Rattle.bench_rules.proofs.GoodTets.{Sound}
+
+abs-neg : (x : ℤ) → natAbs (negℤ x) ≡ natAbs x
+abs-neg (pos zero) = refl
+abs-neg (pos (suc n)) = refl
+abs-neg (negsuc n) = refl
+
+abs-turned : (ps : List V3) (f : Four) → natAbs (value (D ps (turned ps f))) ≡ natAbs (value (D ps f))
+unfolding turned D four
+abs-turned ps f = go (above (D ps f) zero-z)
+  where
+    go : (t : Bool) → natAbs (value (D ps (cond t f (four (f .b) (f .a) (f .c) (f .d))))) ≡ natAbs (value (D ps f))
+    go true = refl
+    go false = ap natAbs (det-swapped (point ps (f .a)) (point ps (f .b)) (point ps (f .c)) (point ps (f .d))) ∙ abs-neg (value (D ps f))
+
+D-volume : (ps : List V3) (f : Four) → Sound ps f → pos (D-of ps f) ≡ four-volume ps f
+unfolding D-of four-volume
+D-volume ps f s =
+    let p = turned-positive ps f (s .not-flat) in
+    let n : natAbs (value (D ps (turned ps f))) ≡ suc (p .0) = ap natAbs (p .1) in
+    let e : magnitude (D ps f) ≡ suc (p .0) = sym (magnitude-value (D ps f)) ∙ sym (abs-turned ps f) ∙ n in ap (λ (k : ℕ). pos k) e ∙ sym (p .1)
+
+pub sum-volume : (cs : List ℤ) {fs : List Four} → Each (Sound (points-in cs)) fs → pos (sum-of-D cs fs) ≡ total (four-volume (points-in cs)) fs
+unfolding sum-of-D total
+sum-volume cs none = refl
+sum-volume cs (more {x = f} {xs = fs} s ss) =
+    ap (λ (u : ℤ). u +ℤ pos (sum-of-D cs fs)) (D-volume (points-in cs) f s) ∙ ap (λ (u : ℤ). four-volume (points-in cs) f +ℤ u) (sum-volume cs ss)
+
+-- ---- picked and not picked
+pub pick-interleave : (t : ℕ → Bool) (xs : List ℕ) → Interleaving (pick t xs) (pick (λ i. not (t i)) xs) xs
+unfolding pick
+pick-interleave t [] = done
+pick-interleave t (x ∷ xs) = go (t x) (pick-interleave t xs)
+  where
+    go :
+        (b : Bool) → Interleaving (pick t xs) (pick (λ i. not (t i)) xs) xs →
+        Interleaving (cond b (x ∷ []) [] ++ pick t xs) (cond (not b) (x ∷ []) [] ++ pick (λ i. not (t i)) xs) (x ∷ xs)
+    go true r = left r
+    go false r = right r
+
+pub parts-interleave : (fs : List Four) {xs ys zs : List ℕ} → Interleaving xs ys zs → Interleaving (parts fs xs) (parts fs ys) (parts fs zs)
+unfolding parts
+parts-interleave fs done = done
+parts-interleave fs (left r) = left (parts-interleave fs r)
+parts-interleave fs (right r) = right (parts-interleave fs r)
+
+parts-later : (f : Four) (fs : List Four) (n i : ℕ) → parts (f ∷ fs) (from n (suc i)) ≡ parts fs (from n i)
+unfolding parts from nth
+parts-later f fs zero i = refl
+parts-later f fs (suc n) i = ap (λ (l : List Four). nth fs i ∷ l) (parts-later f fs n (suc i))
+
+pub parts-all : (fs : List Four) → parts fs (from (length fs) 0) ≡ fs
+unfolding parts from nth
+parts-all [] = refl
+parts-all (f ∷ fs) = ap (λ (l : List Four). f ∷ l) (parts-later f fs (length fs) 0 ∙ parts-all fs)

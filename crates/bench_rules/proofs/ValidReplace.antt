@@ -1,0 +1,73 @@
+-- After replace the bench holds a mesh. Assumes nothing.
+use mathlib.Core.Path.{_≡_, refl, sym, ap, _∙_, subst}
+use mathlib.Core.Bool.{true, false}
+use mathlib.Core.List.{List, map}
+use mathlib.Core.Option.{Option, none, some}
+use Prim.Native.Nat.{ℕ, _/_, _%_, _<_}
+use native.Mathlib.Omega.{arith}
+use borrow.Author.Tests.{ltb-false, le-leb, eq-eqb}
+use lib.Dec.{ltb}
+use lib.ListN.{length}
+use Rattle.geometry.specs.Space.{points-in}
+use Rattle.geometry.specs.Measure.{four-quality}
+use Rattle.geometry.specs.declared.tetrahedron.Four.{Four}
+use Rattle.laws.specs.Laws.{bytes, fours-in, worst, once, all-faces}
+use Rattle.laws.specs.Choice.{Choice}
+use Rattle.laws.proofs.Bytes.{bytes-read-back, length-bytes}
+use Rattle.laws.proofs.Conditions.{keeps}
+use Rattle.laws.proofs.Tests.{and-of}
+use Rattle.laws.proofs.Lists.{Each, none}
+use Rattle.bench_rules.specs.Bench.{Bench, Cavity, Done, Held, no-mesh, mesh, opened, held, done, mesh-fours, mesh-qualities, any-tet-bad, new-tets, put-in, replace-by, cavity-worst, cavity-job, Replaced, Replaced-as}
+use Rattle.bench_rules.proofs.GoodMesh.{Mesh, held-none, held-opened}
+use Rattle.bench_rules.proofs.ValidLoad.{Stays, stays-by-test, refused-stays}
+use Rattle.bench_rules.proofs.GoodTets.{Sound, each-sound-of}
+use Rattle.bench_rules.proofs.GoodCavity.{Good-cavity, cavity-true}
+use Rattle.bench_rules.proofs.NewTets.{new-sound, new-some}
+
+-- ---- put in
+pub mesh-fours-bytes : (fs : List Four) → mesh-fours (bytes fs) ≡ fs
+unfolding mesh-fours
+mesh-fours-bytes fs =
+    let l = length-bytes fs in
+    let e : length (bytes fs) / 4 ≡ length fs = omega arith in ap (λ (n : ℕ). fours-in n (bytes fs)) e ∙ bytes-read-back fs
+
+put-in-stays : (b : Bench) (new : List Four) → Mesh b → Each (Sound (points-in (b .points))) new → 0 < length new → Stays (put-in b new)
+unfolding put-in done mesh-qualities
+put-in-stays b new m s l =
+    stays-by-test (ltb 256 (length new)) _ _ (λ h. refused-stays 36 b)
+    (λ few. stays-by-test (once (all-faces (points-in (b .points)) new)) _ _ (λ single k.
+    let ps = points-in (b .points) in
+    let e = sym (mesh-fours-bytes new) in
+    let q = length-bytes new in
+    let u = ltb-false 256 (length new) few in
+    held-none _
+    (record {
+      good = record {
+        shape = m .good .shape;
+        near = m .good .near;
+        places = m .good .places;
+        tet-shape =
+            and-of (eq-eqb (length (bytes new) % 4) 0 (omega arith)) (and-of (le-leb 1 (length (bytes new) / 4) (omega arith)) (le-leb (length (bytes new) / 4) 256 (omega arith)));
+        tets-good = subst (λ (fs : List Four). any-tet-bad ps fs ≡ false) e (each-sound-of ps s);
+        single = subst (λ (fs : List Four). once (all-faces ps fs) ≡ true) e single;
+      };
+      measured = ap (map (four-quality ps)) e;
+    })
+    refl) (λ h. refused-stays 37 b))
+
+pub replace-stays : (b : Bench) (r : Done) → Replaced b r → Stays r
+unfolding Replaced Replaced-as replace-by Choice
+replace-stays b r d = go (held b) refl d
+  where
+    by : (c : Cavity) → Mesh b → Good-cavity b c → (choice : Option (List Four)) → Choice (cavity-job b c) choice → Stays (replace-by b c choice)
+    by c m g none k = refused-stays 35 b
+    by c m g (some fs) k =
+        let j = keeps (cavity-job b c) fs (k .keeps) in
+        stays-by-test (ltb (cavity-worst b c) (worst (cavity-job b c) fs)) _ _ (λ h. put-in-stays b (new-tets b c fs) m (new-sound b c g m fs j) (new-some b c g fs j))
+        (λ h. refused-stays 35 b)
+
+    go : (h : Held) → held b ≡ h → Replaced-as h b r → Stays r
+    go no-mesh e k = subst (λ (x : Done). Stays x) (sym k) (refused-stays 30 b)
+    go mesh e k = subst (λ (x : Done). Stays x) (sym k) (refused-stays 32 b)
+    go (opened c) e (choice, best, k) =
+        let p = held-opened b c e in subst (λ (x : Done). Stays x) (sym k) (by c (p .0) (cavity-true b c (p .1)) choice best)

@@ -1,0 +1,4 @@
+pub mod Bench
+pub mod History
+pub mod Marks
+pub mod Sound

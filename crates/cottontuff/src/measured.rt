@@ -1,0 +1,54 @@
+// A measurement in one struct for C. Assumes nothing.
+use geometry::measure::Measurement;
+use geometry::measure::measure;
+use geometry::measure::millionths_of;
+ghost use mathlib.Core.Path.{_≡_};
+ghost use Rattle.geometry.specs.Measure.{number-of};
+ghost use Rattle.cottontuff.specs.Measured.{flat-of, measured-for-c};
+
+// number: 0, or 3 or 16, and then the rest is 0. flat: 1 or 0.
+#[repr(C)]
+pub struct Measured {
+    pub d: f64,
+    pub s: f64,
+    pub shape: f64,
+    pub number: u32,
+    pub flat: u32,
+    pub millionths: u32,
+}
+
+fn number_of(answer: Measurement) -> u32
+    ensures { λ r. ⌜ r ≡ number-of answer ⌝ }
+{
+    match answer {
+        Measurement::Refused(n) => n,
+        Measurement::Flat => 0,
+        Measurement::Shape(_) => 0,
+    }
+}
+
+fn flat_of(answer: Measurement) -> u32
+    ensures { λ r. ⌜ r ≡ flat-of answer ⌝ }
+{
+    match answer {
+        Measurement::Refused(_) => 0,
+        Measurement::Flat => 1,
+        Measurement::Shape(_) => 0,
+    }
+}
+
+pub fn measure_for_c(coordinates: &[i32]) -> Measured
+    ensures { λ r. ⌜ r ≡ measured-for-c (now (coordinates .entry)) ⌝ }
+{
+    let m = measure(coordinates);
+    let answer = m.answer;
+    let sizes = m.sizes;
+    Measured {
+        d: sizes.d,
+        s: sizes.s,
+        shape: sizes.shape,
+        number: number_of(answer),
+        flat: flat_of(answer),
+        millionths: millionths_of(answer),
+    }
+}
