@@ -1,0 +1,76 @@
+-- Loops over marks that stop at the first hit, where what is left of the marks has the answer of all; and whether a tetrahedron is in A. Assumes nothing.
+use mathlib.Core.Path.{_≡_, refl, sym, ap, _∙_}
+use mathlib.Core.Bool.{Bool, true, false, _&&_, _||_, not, cond}
+use mathlib.Core.List.{List, [], _∷_, _++_}
+use Prim.Native.Nat.{ℕ, _+_, _/_, _≤_, _<_}
+use native.Mathlib.Omega.{arith}
+use borrow.Author.Tests.{ne-eqb}
+use lib.Dec.{leb, eqb}
+use lib.ListN.{length, drop, drop-of-length-le}
+use Rattle.geometry.specs.declared.tetrahedron.Four.{Four}
+use Rattle.laws.specs.Laws.{corner-of}
+use Rattle.laws.specs.ListedFours.{four-at}
+use Rattle.laws.proofs.Scan.{Step}
+use Rattle.bench_rules.specs.Bench.{mesh-fours, member, nth, common, touches}
+use Rattle.bench_rules.specs.Marks.{marked}
+use Rattle.bench_rules.specs.Sound.{Marks-within}
+use Rattle.growth.proofs.Marked.{marked-more, marked-done}
+use Rattle.growth.proofs.MeshFours.{mesh-nth}
+
+-- a corner counts at most one among the common points
+pub corner-counts-one : (p : ℕ) (f : Four) {r : ℕ} → r ≡ cond (corner-of p f) 1 0 → r ≤ 1
+corner-counts-one p f e = go (corner-of p f) e
+  where
+    go : (b : Bool) → {r : ℕ} → r ≡ cond b 1 0 → r ≤ 1
+    go true e = omega arith
+    go false e = omega arith
+
+-- ---- sharing a face with one in the cavity
+pub touch-step : (ts cm : List ℕ) (f : Four) (j : ℕ) → j < length ts / 4 → j < length cm →
+    Step (touches (mesh-fours ts) f (marked j (drop j cm))) (member j (marked 0 cm) && leb 3 (common f (four-at ts j)))
+    (touches (mesh-fours ts) f (marked (j + 1) (drop (j + 1) cm)))
+unfolding touches
+touch-step ts cm f j h l =
+    record { is = ap (touches (mesh-fours ts) f) (marked-more cm j l) ∙ go (member j (marked 0 cm)) ∙ ap (λ (g : Four). (member j (marked 0 cm) && leb 3 (common f g)) || later) (mesh-nth ts j h) }
+  where
+    later : Bool
+    later = touches (mesh-fours ts) f (marked (j + 1) (drop (j + 1) cm))
+
+    go :
+        (b : Bool) → touches (mesh-fours ts) f (cond b (j ∷ []) [] ++ marked (j + 1) (drop (j + 1) cm))
+        ≡ ((b && leb 3 (common f (nth (mesh-fours ts) j))) || touches (mesh-fours ts) f (marked (j + 1) (drop (j + 1) cm)))
+    go true = refl
+    go false = refl
+
+pub touch-end : (ts cm : List ℕ) (f : Four) (m j : ℕ) → Marks-within m cm → m ≤ j → touches (mesh-fours ts) f (marked j (drop j cm)) ≡ false
+unfolding touches
+touch-end ts cm f m j w h = ap (touches (mesh-fours ts) f) (marked-done cm m j w h)
+
+-- ---- one of A
+pub in-cavity-not-around : (ts cm : List ℕ) (i : ℕ) {r : Bool} → r ≡ member i (marked 0 cm) → r ≡ true →
+    false ≡ (not (member i (marked 0 cm)) && touches (mesh-fours ts) (nth (mesh-fours ts) i) (marked 0 cm))
+in-cavity-not-around ts cm i h e =
+    ap (λ (b : Bool). not b && touches (mesh-fours ts) (nth (mesh-fours ts) i) (marked 0 cm)) (sym e ∙ h)
+
+pub outside-around : (ts cm : List ℕ) (i : ℕ) {r s : Bool} {f : Four} → i < length ts / 4 → r ≡ member i (marked 0 cm) → r ≡ false →
+    f ≡ four-at ts i → s ≡ touches (mesh-fours ts) f (marked 0 cm) →
+    s ≡ (not (member i (marked 0 cm)) && touches (mesh-fours ts) (nth (mesh-fours ts) i) (marked 0 cm))
+outside-around ts cm i l h e k d =
+    d ∙ ap (λ (g : Four). touches (mesh-fours ts) g (marked 0 cm)) (k ∙ sym (mesh-nth ts i l))
+    ∙ ap (λ (b : Bool). not b && touches (mesh-fours ts) (nth (mesh-fours ts) i) (marked 0 cm)) (sym e ∙ h)
+
+-- ---- whether any is marked
+pub any-found : (ms : List ℕ) (i : ℕ) {r : Bool} → i < length ms → marked 0 ms ≡ marked i (drop i ms) → r ≡ member i (marked 0 ms) → r ≡ true →
+    true ≡ not (eqb (length (marked 0 ms)) 0)
+any-found ms i l h e t =
+    let s : marked 0 ms ≡ i ∷ marked (i + 1) (drop (i + 1) ms) =
+    h ∙ marked-more ms i l ∙ ap (λ (b : Bool). cond b (i ∷ []) [] ++ marked (i + 1) (drop (i + 1) ms)) (sym e ∙ t) in
+    let n = ap length s in sym (ap not (ne-eqb (length (marked 0 ms)) 0 (λ z. omega arith)))
+
+pub any-missed : (ms : List ℕ) (i : ℕ) {r : Bool} → i < length ms → marked 0 ms ≡ marked i (drop i ms) → r ≡ member i (marked 0 ms) → r ≡ false →
+    marked 0 ms ≡ marked (i + 1) (drop (i + 1) ms)
+any-missed ms i l h e t = h ∙ marked-more ms i l ∙ ap (λ (b : Bool). cond b (i ∷ []) [] ++ marked (i + 1) (drop (i + 1) ms)) (sym e ∙ t)
+
+pub any-end : (ms : List ℕ) (i : ℕ) → length ms ≤ i → marked 0 ms ≡ marked i (drop i ms) → false ≡ not (eqb (length (marked 0 ms)) 0)
+unfolding marked
+any-end ms i l h = sym (ap (λ (k : List ℕ). not (eqb (length k) 0)) (h ∙ ap (marked i) (drop-of-length-le ms l)))
