@@ -1,0 +1,69 @@
+-- `mesh::cavity::are_points_right` meets its contract. The invariant: the marks from the p-th on have the answer of all. Assumes nothing.
+use mathlib.Core.Path.{_≡_, refl, sym, ap, _∙_}
+use mathlib.Core.Bool.{_&&_}
+use Prim.Native.Nat.{_≤_, _-_}
+use lib.Dec.{ltb}
+use lib.ListN.{length}
+use Rattle.laws.proofs.Passes.{fails, passes}
+use Rattle.bench_rules.specs.Bench.{mesh-fours, same-numbers, points-of}
+use Rattle.bench_rules.specs.Marks.{marked}
+use Rattle.mesh.proofs.CavityTests.{points-left, points-start, points-test, points-end, alike-is}
+use native.Mathlib.Omega.{arith}
+use Rattle.mesh.proofs.cavity.are_points_right.Statement.{statement}
+use Rattle.mesh.proofs.cavity.are_points_right.Tie as tie
+
+abbrev Inv-loop : tie.InvT-loop
+Inv-loop n tets in-cavity in-points p₀ p-end p = (p ≤ length in-points) × (p-end ≡ length in-points) × (same-numbers (marked 0 in-points) (points-of n (mesh-fours tets) (marked 0 in-cavity)) ≡ points-left n tets in-cavity in-points p)
+
+abbrev μ-loop : tie.MeasureT-loop
+μ-loop n tets in-cavity in-points p₀ p-end p = p-end - p
+
+loop-holds : tie.Need-loop-holds Inv-loop μ-loop
+loop-holds c = let s = c .before .before .before in (omega arith, refl, points-start (s .args .n) (s .args .tets .now) (s .args .in-cavity .now) (s .args .in-points .now) (s .pre .0))
+
+is-corner-inside-requires : tie.Need-is-corner-inside-requires Inv-loop μ-loop
+is-corner-inside-requires c κs = (c .before .before .before .before .before .pre .1, c .before .before .before .before .before .pre .2)
+
+is-marked-requires : tie.Need-is-marked-requires Inv-loop μ-loop
+is-marked-requires c κs = tt
+
+is-alike-requires : tie.Need-is-alike-requires Inv-loop μ-loop
+is-alike-requires c κs = tt
+
+returns : tie.Need-returns Inv-loop μ-loop
+returns c =
+    let s = c .before .before .before .before .before .before .before .before .before .args in
+    let l = c .before .before .before .before .before .loop in
+    fails (l .inv .2) (points-test (s .n) (s .tets .now) (s .in-cavity .now) (s .in-points .now) (l .p) (omega arith))
+    (alike-is (c .before .is-alike .ensures) (c .before .before .is-marked .ensures) (ap (_&&_ (ltb (l .p) (s .n))) (c .before .before .before .is-corner-inside .ensures))) (c .if1 .taken)
+
+add-p : tie.Need-add-p Inv-loop μ-loop
+add-p c = omega arith
+
+loop-less : tie.Need-loop-less Inv-loop μ-loop
+loop-less c = omega arith
+
+loop-again : tie.Need-loop-again Inv-loop μ-loop
+loop-again c =
+    let s = c .before .before .before .before .before .before .before .before .before .args in
+    let l = c .before .before .before .before .before .loop in
+    (omega arith, refl, passes (l .inv .2) (points-test (s .n) (s .tets .now) (s .in-cavity .now) (s .in-points .now) (l .p) (omega arith)) (alike-is (c .before .is-alike .ensures) (c .before .before .is-marked .ensures) (ap (_&&_ (ltb (l .p) (s .n))) (c .before .before .before .is-corner-inside .ensures))) (c .if1 .left))
+
+returns-2 : tie.Need-returns-2 Inv-loop μ-loop
+returns-2 c = let s = c .before .before .before .before .before .args in sym (c .before .loop .inv .2 ∙ points-end (s .n) (s .tets .now) (s .in-cavity .now) (s .in-points .now) (c .before .loop .p) (omega arith))
+
+pub are-points-right-spec : {M : Type 1} → statement M
+are-points-right-spec =
+    tie.close
+    (tie.spec
+    Inv-loop
+    μ-loop
+    loop-holds
+    is-corner-inside-requires
+    is-marked-requires
+    is-alike-requires
+    returns
+    add-p
+    loop-less
+    loop-again
+    returns-2)

@@ -1,0 +1,15 @@
+-- Directed triangles by number: turned so that the least point comes first, as three digits to the base 256. Assumes nothing: these are definitions.
+use mathlib.Core.Bool.{Bool, true, _&&_, not}
+use mathlib.Core.List.{List, [], _∷_}
+use Prim.Native.Nat.{ℕ, _+_, _*_}
+use Rattle.laws.specs.Laws.{Tri}
+use Rattle.laws.specs.FaceCodes.{least-turn}
+use Rattle.bench_rules.specs.Bench.{member}
+
+unfoldable pub tri-code : Tri → ℕ
+tri-code t = least-turn t .a * 65536 + least-turn t .b * 256 + least-turn t .c
+
+-- whether no number comes twice
+unfoldable pub all-different : List ℕ → Bool
+all-different [] = true
+all-different (c ∷ cs) = not (member c cs) && all-different cs
