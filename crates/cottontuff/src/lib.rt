@@ -7,8 +7,17 @@ ghost use Rattle.laws.specs.Check.{job-refusal};
 ghost use Rattle.laws.specs.Judge.{Judge-says};
 ghost use Rattle.search.specs.Entry.{Search-says};
 ghost use Rattle.answer.specs.Answer.{Answered};
+ghost use Rattle.bench.specs.Store.{fresh, loaded, opened-at, grown, closed, Replaces};
 ghost use Rattle.cottontuff.specs.Measured.{measured-for-c};
 use answer::printout::print_text;
+use bench::bench::Answer;
+use bench::bench::Bench;
+use bench::bench::new;
+use bench::close::close;
+use bench::grow::grow;
+use bench::load::load;
+use bench::opening::open_at;
+use bench::replace::replace;
 use laws::check::check_job;
 use laws::judge::Verdict;
 use laws::judge::judge;
@@ -72,4 +81,47 @@ pub extern "C" fn cottontuff_print(text: &[u8], out: &mut [u8]) -> usize
     ensures { λ r. ⌜ Answered (now (text .entry)) (now (out .entry)) r (now (out .exit)) ⌝ }
 {
     print_text(text, out)
+}
+
+// The bench: each operation takes any value and gives back its number and the value afterwards; after a refusal the value is the one handed over.
+#[no_mangle]
+pub extern "C" fn cottontuff_bench_fresh() -> Bench
+    ensures { λ r. ⌜ r ≡ fresh ⌝ }
+{
+    new()
+}
+
+#[no_mangle]
+pub extern "C" fn cottontuff_bench_load(b: Bench, points: &[i32], tets: &[u8]) -> Answer
+    ensures { λ r. ⌜ r ≡ loaded b (now (points .entry)) (now (tets .entry)) ⌝ }
+{
+    load(b, points, tets)
+}
+
+#[no_mangle]
+pub extern "C" fn cottontuff_bench_open(b: Bench, tet: u32) -> Answer
+    ensures { λ r. ⌜ r ≡ opened-at b tet ⌝ }
+{
+    open_at(b, tet)
+}
+
+#[no_mangle]
+pub extern "C" fn cottontuff_bench_grow(b: Bench) -> Answer
+    ensures { λ r. ⌜ r ≡ grown b ⌝ }
+{
+    grow(b)
+}
+
+#[no_mangle]
+pub extern "C" fn cottontuff_bench_replace(b: Bench) -> Answer
+    ensures { λ r. ⌜ Replaces b r ⌝ }
+{
+    replace(b)
+}
+
+#[no_mangle]
+pub extern "C" fn cottontuff_bench_close(b: Bench) -> Answer
+    ensures { λ r. ⌜ r ≡ closed b ⌝ }
+{
+    close(b)
 }

@@ -2,8 +2,8 @@
 use geometry::measure::Measurement;
 use geometry::measure::measure;
 use geometry::measure::millionths_of;
+use geometry::measure::number_of;
 ghost use mathlib.Core.Path.{_≡_};
-ghost use Rattle.geometry.specs.Measure.{number-of};
 ghost use Rattle.cottontuff.specs.Measured.{flat-of, measured-for-c};
 
 // number: 0, or 3 or 16, and then the rest is 0. flat: 1 or 0.
@@ -15,16 +15,6 @@ pub struct Measured {
     pub number: u32,
     pub flat: u32,
     pub millionths: u32,
-}
-
-fn number_of(answer: Measurement) -> u32
-    ensures { λ r. ⌜ r ≡ number-of answer ⌝ }
-{
-    match answer {
-        Measurement::Refused(n) => n,
-        Measurement::Flat => 0,
-        Measurement::Shape(_) => 0,
-    }
 }
 
 fn flat_of(answer: Measurement) -> u32

@@ -7,6 +7,12 @@ pub mod Points
 pub mod Order
 pub mod Directions
 pub mod Parting
+pub mod Extents
+pub mod CornerOrder
+pub mod Products
+pub mod Rows
+pub mod Faces
+pub mod Crosses
 pub mod Tried
 pub mod Tetrahedra
 pub mod Near

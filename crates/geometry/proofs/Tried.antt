@@ -1,21 +1,18 @@
 -- What the functions on separating directions have found so far: tests one after the other, left at the first that holds. Assumes nothing.
-use mathlib.Core.Path.{_≡_, refl, sym, ap, _∙_}
+use mathlib.Core.Path.{_≡_, refl, sym, _∙_}
 use mathlib.Core.Bool.{Bool, true, false, _&&_, _||_, not}
-use mathlib.Core.List.{List, [], _∷_, _++_}
-use Prim.Native.Nat.{ℕ, _<_, _^_}
+use mathlib.Core.List.{List, [], _∷_}
 use lib.Dec.{eqb}
-use lib.IntN.{ℤ, natAbs}
-use lib.Signed.{mag, leZ}
-use mir.Syntax.{w64}
-use mir.Val.{toZ, ofZ, hbits}
+use lib.IntN.{natAbs}
+use lib.Signed.{leZ}
 use Rattle.geometry.specs.Space.{V3, apart}
 use Rattle.geometry.specs.declared.tetrahedron.Four.{Four}
 use Rattle.geometry.specs.declared.tetrahedron.Corners.{Corners}
 use Rattle.geometry.specs.declared.vector.Vector.{Vector}
 use Rattle.geometry.specs.declared.apart.Extent.{Extent}
-use Rattle.geometry.specs.Vectors.{corners-of, dot-product, cross-product, lesser-of, greater-of, zero-vector, extent-of, parting, any-parting, normals-of, edge-vectors, crosses-of, all-crosses-of}
-use Rattle.geometry.proofs.Machine.{kept}
-use Rattle.geometry.proofs.Order.{greater-le, le-lesser}
+use Rattle.geometry.specs.declared.apart.Row.{Row}
+use Rattle.geometry.specs.Vectors.{corners-of, cross-product, zero-vector, extent-of, parting, any-parting, normals-of, edge-vectors, crosses-of, all-crosses-of}
+use Rattle.geometry.specs.Rows.{extent-in, clear, parting-rows}
 use Rattle.geometry.proofs.Parting.{any-append, apart-by-extent}
 
 -- ---- the zero vector
@@ -32,87 +29,32 @@ module _ (n : Vector) where
   unfolding zero-vector
   z-decides p q = rw (p, q) refl
 
--- ---- the extent of four corners, and two extents compared
-pub extent-is :
-    (n : Vector) (t : Corners) {a b c d l m p q x y : ℤ} →
-    a ≡ dot-product n (t .a) → b ≡ dot-product n (t .b) → c ≡ dot-product n (t .c) → d ≡ dot-product n (t .d) →
-    l ≡ lesser-of a b → m ≡ lesser-of c d → x ≡ lesser-of l m → p ≡ greater-of a b → q ≡ greater-of c d → y ≡ greater-of p q →
-    _≡_ {A = Extent} (record { least = x; greatest = y }) (extent-of n t)
-unfolding extent-of
-extent-is n t ea eb ec ed el em ex ep eq ey = cc
+-- ---- one direction by its rows
+pub clear-at : {b : Bool} {p q p′ q′ : Extent} → b ≡ clear p q → p ≡ p′ → q ≡ q′ → b ≡ clear p′ q′
+clear-at h e f = cc
 
--- four corners one after the other, against an end of another extent
-module _ (n : Vector) (t : Corners) (e : ℤ) where
-  abbrev along-a : ℤ
-  along-a = dot-product n (t .a)
+module _ (n : Vector) (p q : Row) where
+  pub not-clear : clear (extent-in p) (extent-in q) ≡ false → false ≡ parting-rows n p q
+  unfolding parting-rows
+  not-clear h = rw h (go (not (zero-vector n)))
+    where
+      go : (b : Bool) → false ≡ b && false
+      go true = refl
+      go false = refl
 
-  abbrev along-b : ℤ
-  along-b = dot-product n (t .b)
+  pub direction-decides : clear (extent-in p) (extent-in q) ≡ true → not (zero-vector n) ≡ parting-rows n p q
+  unfolding parting-rows
+  direction-decides h = rw h (go (not (zero-vector n)))
+    where
+      go : (b : Bool) → b ≡ b && true
+      go true = refl
+      go false = refl
 
-  abbrev along-c : ℤ
-  along-c = dot-product n (t .c)
-
-  abbrev along-d : ℤ
-  along-d = dot-product n (t .d)
-
-  beyond-each : leZ e (extent-of n t .least) ≡ (leZ e along-a && leZ e along-b) && (leZ e along-c && leZ e along-d)
-  unfolding extent-of
-  beyond-each =
-      le-lesser (lesser-of along-a along-b) (lesser-of along-c along-d) e ∙ rw (le-lesser along-a along-b e, le-lesser along-c along-d e) refl
-
-  short-each : leZ (extent-of n t .greatest) e ≡ (leZ along-a e && leZ along-b e) && (leZ along-c e && leZ along-d e)
-  unfolding extent-of
-  short-each =
-      greater-le (greater-of along-a along-b) (greater-of along-c along-d) e ∙ rw (greater-le along-a along-b e, greater-le along-c along-d e) refl
-
-  pub beyond-a : leZ e along-a ≡ false → false ≡ leZ e (extent-of n t .least)
-  beyond-a p = sym (beyond-each ∙ rw p refl)
-
-  pub beyond-b : leZ e along-a ≡ true → leZ e along-b ≡ false → false ≡ leZ e (extent-of n t .least)
-  beyond-b p q = sym (beyond-each ∙ rw (p, q) refl)
-
-  pub beyond-c : leZ e along-a ≡ true → leZ e along-b ≡ true → leZ e along-c ≡ false → false ≡ leZ e (extent-of n t .least)
-  beyond-c p q r = sym (beyond-each ∙ rw (p, q, r) refl)
-
-  pub beyond-d : leZ e along-a ≡ true → leZ e along-b ≡ true → leZ e along-c ≡ true → leZ e along-d ≡ leZ e (extent-of n t .least)
-  beyond-d p q r = sym (beyond-each ∙ rw (p, q, r) refl)
-
-  pub short-a : leZ along-a e ≡ false → false ≡ leZ (extent-of n t .greatest) e
-  short-a p = sym (short-each ∙ rw p refl)
-
-  pub short-b : leZ along-a e ≡ true → leZ along-b e ≡ false → false ≡ leZ (extent-of n t .greatest) e
-  short-b p q = sym (short-each ∙ rw (p, q) refl)
-
-  pub short-c : leZ along-a e ≡ true → leZ along-b e ≡ true → leZ along-c e ≡ false → false ≡ leZ (extent-of n t .greatest) e
-  short-c p q r = sym (short-each ∙ rw (p, q, r) refl)
-
-  pub short-d : leZ along-a e ≡ true → leZ along-b e ≡ true → leZ along-c e ≡ true → leZ along-d e ≡ leZ (extent-of n t .greatest) e
-  short-d p q r = sym (short-each ∙ rw (p, q, r) refl)
-
--- a corner's value as the machine holds it, tested against an end
-pub tested-beyond : {b : Bool} (e : ℤ) {x y : ℤ} → b ≡ leZ e (toZ w64 (ofZ w64 x)) → mag x < 2 ^ hbits w64 → x ≡ y → leZ e y ≡ b
-tested-beyond e {x} h m d = sym (h ∙ ap (leZ e) (kept x m ∙ d))
-
-pub tested-short : {b : Bool} (e : ℤ) {x y : ℤ} → b ≡ leZ (toZ w64 (ofZ w64 x)) e → mag x < 2 ^ hbits w64 → x ≡ y → leZ y e ≡ b
-tested-short e {x} h m d = sym (h ∙ ap (λ (v : ℤ). leZ v e) (kept x m ∙ d))
-
--- an end of the one extent, once it is known
-pub beyond-at : (n : Vector) (t : Corners) {b : Bool} {u v : Extent} → b ≡ leZ (u .greatest) (extent-of n t .least) → u ≡ v → b ≡ leZ (v .greatest) (extent-of n t .least)
-beyond-at n t h e = h ∙ ap (λ (x : Extent). leZ (x .greatest) (extent-of n t .least)) e
-
-pub short-at : (n : Vector) (t : Corners) {b : Bool} {u v : Extent} → b ≡ leZ (extent-of n t .greatest) (u .least) → u ≡ v → b ≡ leZ (extent-of n t .greatest) (v .least)
-short-at n t h e = h ∙ ap (λ (x : Extent). leZ (extent-of n t .greatest) (x .least)) e
-
--- a direction made with an edge, once the edge is known
-pub by-edge :
-    (s t : Corners) {b : Bool} {e e′ : Vector} (x : Vector) → e ≡ e′ → b ≡ parting (cross-product e x) s t → b ≡ parting (cross-product e′ x) s t
-by-edge s t x p h = cc
-
--- a direction made of edges, once they are known
-pub by-edges :
-    (s t : Corners) {b : Bool} {n d e d′ e′ : Vector} → b ≡ parting n s t → n ≡ cross-product d e → d ≡ d′ → e ≡ e′ →
-    b ≡ parting (cross-product d′ e′) s t
-by-edges s t h p q r = cc
+-- the test of a cross product, once what it is made of is known
+pub rows-at :
+    (e : Vector) {b : Bool} {n d d′ : Vector} {p q p′ q′ : Row} → b ≡ parting-rows n p q → n ≡ cross-product e d → d ≡ d′ → p ≡ p′ → q ≡ q′ →
+    b ≡ parting-rows (cross-product e d′) p′ q′
+rows-at e h m f u v = cc
 
 -- the same of whole groups, once the corners are known
 pub normals-at :
@@ -125,21 +67,6 @@ pub edges-at :
 edges-at p q h = cc
 
 module _ (s t : Corners) where
-  -- ---- one direction
-  pub zero-parts-nothing : (n : Vector) → zero-vector n ≡ true → false ≡ parting n s t
-  unfolding parting
-  zero-parts-nothing n p = rw p refl
-
-  pub parts-one-way : (n : Vector) → zero-vector n ≡ false → leZ (extent-of n s .greatest) (extent-of n t .least) ≡ true → true ≡ parting n s t
-  unfolding parting
-  parts-one-way n p q = rw (p, q) refl
-
-  pub other-way-decides :
-      (n : Vector) → zero-vector n ≡ false → leZ (extent-of n s .greatest) (extent-of n t .least) ≡ false →
-      leZ (extent-of n t .greatest) (extent-of n s .least) ≡ parting n s t
-  unfolding parting
-  other-way-decides n p q = rw (p, q) refl
-
   -- ---- directions one after the other
   pub this-parts : (n : Vector) (ns : List Vector) → parting n s t ≡ true → true ≡ any-parting (n ∷ ns) s t
   unfolding any-parting
@@ -176,6 +103,19 @@ module _ (s t : Corners) where
         or-false : (b : Bool) → b || false ≡ b
         or-false true = refl
         or-false false = refl
+
+-- it is all one which of the two comes first
+or-swapped : (p q : Bool) → p || q ≡ q || p
+or-swapped true true = refl
+or-swapped true false = refl
+or-swapped false true = refl
+or-swapped false false = refl
+
+pub either-first : (s t : Corners) (ns : List Vector) → any-parting ns t s ≡ any-parting ns s t
+unfolding any-parting parting
+either-first s t [] = refl
+either-first s t (n ∷ ns) =
+    rw (or-swapped (leZ (extent-of n t .greatest) (extent-of n s .least)) (leZ (extent-of n s .greatest) (extent-of n t .least)), either-first s t ns) refl
 
 -- ---- the three groups of directions
 module _ (ps : List V3) (f g : Four) where

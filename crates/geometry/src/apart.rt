@@ -1,9 +1,11 @@
 // Separating directions (document 01, law 5): the eight face normals and the 36 cross products of an edge of each.
+// A value along e × (q - p), for an edge e, is the value along p × e less that along q × e. So an edge takes a row of the other
+// tetrahedron for each of its four corners, and tests the six cross products by differences. Its own tetrahedron has the rows of e's two faces.
 ghost use mathlib.Core.Path.{_≡_};
-ghost use lib.Signed.{leZ};
 ghost use Rattle.geometry.specs.Space.{points-in, apart};
-ghost use Rattle.geometry.specs.Vectors.{zero-vector, lesser-of, greater-of, extent-of, parting, any-parting, difference, cross-product, normal-of, normals-of, edge-vectors, crosses-of, all-crosses-of};
+ghost use Rattle.geometry.specs.Vectors.{zero-vector, lesser-of, greater-of, any-parting, difference, cross-product, normal-of, edge-vectors, crosses-of, all-crosses-of};
 ghost use Rattle.geometry.specs.Range.{furthest, longest, widest, Bounded, In-range, Present};
+ghost use Rattle.geometry.specs.Rows.{row-of, row-difference, no-row, extent-in, clear, parting-rows, level-of, faces-of, no-faces, Faces-found, seen-from, across-of, sides-of, Bounded-row, Bounded-rows, In-reach};
 use crate::tetrahedron::Corners;
 use crate::tetrahedron::Four;
 use crate::tetrahedron::corner_points;
@@ -13,10 +15,35 @@ use crate::vector::dot;
 use crate::vector::is_zero;
 use crate::vector::minus;
 
-// The least and the greatest value of four corners along a direction.
+// The values of four corners along a direction.
+pub struct Row {
+    pub a: i64,
+    pub b: i64,
+    pub c: i64,
+    pub d: i64,
+}
+
+// The least and the greatest of them.
 pub struct Extent {
     pub least: i64,
     pub greatest: i64,
+}
+
+// A row for each of four corners.
+pub struct Rows {
+    pub a: Row,
+    pub b: Row,
+    pub c: Row,
+    pub d: Row,
+}
+
+// Whether a face normal parts two tetrahedra; where none does, the row of the other along each.
+pub struct Faces {
+    pub parted: bool,
+    pub abc: Row,
+    pub abd: Row,
+    pub acd: Row,
+    pub bcd: Row,
 }
 
 pub fn lesser(a: i64, b: i64) -> i64
@@ -31,19 +58,6 @@ pub fn greater(a: i64, b: i64) -> i64
     if a < b { b } else { a }
 }
 
-// Whether a value lies at or beyond the greatest, or at or before the least.
-pub fn is_beyond(p: Extent, v: i64) -> bool
-    ensures { λ r. ⌜ r ≡ leZ (p .greatest) v ⌝ }
-{
-    p.greatest <= v
-}
-
-pub fn is_short(p: Extent, v: i64) -> bool
-    ensures { λ r. ⌜ r ≡ leZ v (p .least) ⌝ }
-{
-    v <= p.least
-}
-
 pub fn no_direction(n: Vector) -> bool
     ensures { λ r. ⌜ r ≡ zero-vector n ⌝ }
 {
@@ -56,147 +70,283 @@ pub fn no_direction(n: Vector) -> bool
     is_zero(n.z)
 }
 
-pub fn extent_along(n: Vector, t: Corners) -> Extent
+pub fn along(n: Vector, t: Corners) -> Row
     requires { ⌜ Bounded widest n × In-range t ⌝ }
-    ensures { λ r. ⌜ r ≡ extent-of n t ⌝ }
+    ensures { λ r. ⌜ (r ≡ row-of n t) × Bounded-row r ⌝ }
 {
     let a = dot(n, t.a);
     let b = dot(n, t.b);
     let c = dot(n, t.c);
     let d = dot(n, t.d);
+    Row { a, b, c, d }
+}
+
+pub fn row_minus(p: Row, q: Row) -> Row
+    requires { ⌜ Bounded-row p × Bounded-row q ⌝ }
+    ensures { λ r. ⌜ r ≡ row-difference p q ⌝ }
+{
+    Row {
+        a: p.a - q.a,
+        b: p.b - q.b,
+        c: p.c - q.c,
+        d: p.d - q.d,
+    }
+}
+
+// The row along the opposite direction.
+pub fn back(p: Row) -> Row
+    requires { ⌜ Bounded-row p ⌝ }
+    ensures { λ r. ⌜ (r ≡ row-difference no-row p) × Bounded-row r ⌝ }
+{
+    Row {
+        a: 0 - p.a,
+        b: 0 - p.b,
+        c: 0 - p.c,
+        d: 0 - p.d,
+    }
+}
+
+pub fn extent_in(p: Row) -> Extent
+    ensures { λ r. ⌜ r ≡ extent-in p ⌝ }
+{
     Extent {
-        least: lesser(lesser(a, b), lesser(c, d)),
-        greatest: greater(greater(a, b), greater(c, d)),
+        least: lesser(lesser(p.a, p.b), lesser(p.c, p.d)),
+        greatest: greater(greater(p.a, p.b), greater(p.c, p.d)),
     }
 }
 
-// Whether every corner lies at or beyond the greatest value; left at the first that does not.
-pub fn lies_beyond(n: Vector, p: Extent, t: Corners) -> bool
-    requires { ⌜ Bounded widest n × In-range t ⌝ }
-    ensures { λ r. ⌜ r ≡ leZ (p .greatest) (extent-of n t .least) ⌝ }
+// Whether the two have at most an end in common. Both comparisons are made: a branch between them could not be predicted.
+pub fn are_clear(p: Extent, q: Extent) -> bool
+    ensures { λ r. ⌜ r ≡ clear p q ⌝ }
 {
-    if !is_beyond(p, dot(n, t.a)) {
+    (p.greatest <= q.least) | (q.greatest <= p.least)
+}
+
+// The test of one direction by the rows along it. A zero direction, along which all values are equal, parts nothing.
+pub fn parts(n: Vector, p: Row, q: Row) -> bool
+    ensures { λ r. ⌜ r ≡ parting-rows n p q ⌝ }
+{
+    if !are_clear(extent_in(p), extent_in(q)) {
         return false;
     }
-    if !is_beyond(p, dot(n, t.b)) {
-        return false;
-    }
-    if !is_beyond(p, dot(n, t.c)) {
-        return false;
-    }
-    is_beyond(p, dot(n, t.d))
+    !no_direction(n)
 }
 
-// The same of the least value.
-pub fn lies_short(n: Vector, p: Extent, t: Corners) -> bool
-    requires { ⌜ Bounded widest n × In-range t ⌝ }
-    ensures { λ r. ⌜ r ≡ leZ (extent-of n t .greatest) (p .least) ⌝ }
+pub fn normal(a: Vector, b: Vector, c: Vector) -> Vector
+    requires { ⌜ Bounded furthest a × Bounded furthest b × Bounded furthest c ⌝ }
+    ensures { λ r. ⌜ (r ≡ normal-of a b c) × Bounded widest r ⌝ }
 {
-    if !is_short(p, dot(n, t.a)) {
-        return false;
-    }
-    if !is_short(p, dot(n, t.b)) {
-        return false;
-    }
-    if !is_short(p, dot(n, t.c)) {
-        return false;
-    }
-    is_short(p, dot(n, t.d))
+    cross(minus(b, a), minus(c, a))
 }
 
-// The test of one direction: yes exactly when it is not zero and parts the two.
-pub fn parts(n: Vector, s: Corners, t: Corners) -> bool
-    requires { ⌜ Bounded widest n × In-range s × In-range t ⌝ }
-    ensures { λ r. ⌜ r ≡ parting n s t ⌝ }
+// The own corners along the normal of a face: the face is all at the value of its corner p, and q is the fourth. Their order does not matter.
+pub fn level(n: Vector, p: Vector, q: Vector) -> Row
+    requires { ⌜ Bounded widest n × Bounded furthest p × Bounded furthest q ⌝ }
+    ensures { λ r. ⌜ r ≡ level-of n p q ⌝ }
 {
-    if no_direction(n) {
-        return false;
+    let v = dot(n, p);
+    let w = dot(n, q);
+    Row {
+        a: v,
+        b: v,
+        c: v,
+        d: w,
     }
-    let p = extent_along(n, s);
-    if lies_beyond(n, p, t) {
-        return true;
-    }
-    lies_short(n, p, t)
 }
 
-// The same of the normal of a face.
-pub fn normal_parts(a: Vector, b: Vector, c: Vector, s: Corners, t: Corners) -> bool
-    requires { ⌜ (Bounded furthest a × Bounded furthest b × Bounded furthest c) × In-range s × In-range t ⌝ }
-    ensures { λ r. ⌜ r ≡ parting (normal-of a b c) s t ⌝ }
+// What is answered where a face normal parts the two.
+pub fn no_faces() -> Faces
+    ensures { λ r. ⌜ r ≡ no-faces ⌝ }
 {
-    parts(cross(minus(b, a), minus(c, a)), s, t)
+    let none = Row {
+        a: 0,
+        b: 0,
+        c: 0,
+        d: 0,
+    };
+    Faces {
+        parted: true,
+        abc: none,
+        abd: none,
+        acd: none,
+        bcd: none,
+    }
 }
 
-// The same of the cross product of an edge e and the edge from a to b.
-pub fn cross_parts(e: Vector, a: Vector, b: Vector, s: Corners, t: Corners) -> bool
-    requires { ⌜ (Bounded longest e × Bounded furthest a × Bounded furthest b) × In-range s × In-range t ⌝ }
-    ensures { λ r. ⌜ r ≡ parting (cross-product e (difference b a)) s t ⌝ }
-{
-    parts(cross(e, minus(b, a)), s, t)
-}
-
-// Whether the normal of a face of o parts s and t.
-pub fn normals_part(o: Corners, s: Corners, t: Corners) -> bool
-    requires { ⌜ In-range o × In-range s × In-range t ⌝ }
-    ensures { λ r. ⌜ r ≡ any-parting (normals-of o) s t ⌝ }
-{
-    if normal_parts(o.a, o.b, o.c, s, t) {
-        return true;
-    }
-    if normal_parts(o.a, o.b, o.d, s, t) {
-        return true;
-    }
-    if normal_parts(o.a, o.c, o.d, s, t) {
-        return true;
-    }
-    normal_parts(o.b, o.c, o.d, s, t)
-}
-
-// Whether the cross product of the edge from a to b and an edge of t parts s and t.
-pub fn edge_parts(a: Vector, b: Vector, s: Corners, t: Corners) -> bool
-    requires { ⌜ (Bounded furthest a × Bounded furthest b) × In-range s × In-range t ⌝ }
-    ensures { λ r. ⌜ r ≡ any-parting (crosses-of (difference b a) (edge-vectors t)) s t ⌝ }
-{
-    let e = minus(b, a);
-    if cross_parts(e, t.a, t.b, s, t) {
-        return true;
-    }
-    if cross_parts(e, t.a, t.c, s, t) {
-        return true;
-    }
-    if cross_parts(e, t.a, t.d, s, t) {
-        return true;
-    }
-    if cross_parts(e, t.b, t.c, s, t) {
-        return true;
-    }
-    if cross_parts(e, t.b, t.d, s, t) {
-        return true;
-    }
-    cross_parts(e, t.c, t.d, s, t)
-}
-
-// Whether the cross product of an edge of s and an edge of t parts them.
-pub fn edges_part(s: Corners, t: Corners) -> bool
+// The face normals of s; left at the first that parts.
+pub fn faces_against(s: Corners, t: Corners) -> Faces
     requires { ⌜ In-range s × In-range t ⌝ }
+    ensures { λ r. ⌜ Faces-found s t r ⌝ }
+{
+    let f = normal(s.a, s.b, s.c);
+    let abc = along(f, t);
+    if parts(f, level(f, s.a, s.d), abc) {
+        return no_faces();
+    }
+    let g = normal(s.a, s.b, s.d);
+    let abd = along(g, t);
+    if parts(g, level(g, s.a, s.c), abd) {
+        return no_faces();
+    }
+    let h = normal(s.a, s.c, s.d);
+    let acd = along(h, t);
+    if parts(h, level(h, s.a, s.b), acd) {
+        return no_faces();
+    }
+    let k = normal(s.b, s.c, s.d);
+    let bcd = along(k, t);
+    if parts(k, level(k, s.b, s.a), bcd) {
+        return no_faces();
+    }
+    Faces {
+        parted: false,
+        abc,
+        abd,
+        acd,
+        bcd,
+    }
+}
+
+// The corners of t, as edges from i.
+pub fn seen_from(i: Vector, t: Corners) -> Corners
+    requires { ⌜ Bounded furthest i × In-range t ⌝ }
+    ensures { λ r. ⌜ (r ≡ seen-from i t) × In-reach r ⌝ }
+{
+    let a = minus(t.a, i);
+    let b = minus(t.b, i);
+    let c = minus(t.c, i);
+    let d = minus(t.d, i);
+    Corners { a, b, c, d }
+}
+
+// A row for each corner p, along p × e. The value of q is that of p along q × e with the other sign, so six of the sixteen are computed.
+pub fn across(e: Vector, t: Corners) -> Rows
+    requires { ⌜ Bounded longest e × In-reach t ⌝ }
+    ensures { λ r. ⌜ (r ≡ across-of e t) × Bounded-rows r ⌝ }
+{
+    let p = cross(t.a, e);
+    let q = cross(t.b, e);
+    let ab = dot(p, t.b);
+    let ac = dot(p, t.c);
+    let ad = dot(p, t.d);
+    let bc = dot(q, t.c);
+    let bd = dot(q, t.d);
+    let cd = dot(cross(t.c, e), t.d);
+    let a = Row {
+        a: 0,
+        b: ab,
+        c: ac,
+        d: ad,
+    };
+    let b = Row {
+        a: 0 - ab,
+        b: 0,
+        c: bc,
+        d: bd,
+    };
+    let c = Row {
+        a: 0 - ac,
+        b: 0 - bc,
+        c: 0,
+        d: cd,
+    };
+    let d = Row {
+        a: 0 - ad,
+        b: 0 - bd,
+        c: 0 - cd,
+        d: 0,
+    };
+    Rows { a, b, c, d }
+}
+
+// The tetrahedron of an edge along the same directions: the ends of the edge at zero, the other two corners by the rows x and y of its faces.
+pub fn sides(x: Row, y: Row) -> Rows
+    requires { ⌜ Bounded-row x × Bounded-row y ⌝ }
+    ensures { λ r. ⌜ (r ≡ sides-of x y) × Bounded-rows r ⌝ }
+{
+    let a = Row {
+        a: 0,
+        b: 0,
+        c: x.a,
+        d: y.a,
+    };
+    let b = Row {
+        a: 0,
+        b: 0,
+        c: x.b,
+        d: y.b,
+    };
+    let c = Row {
+        a: 0,
+        b: 0,
+        c: x.c,
+        d: y.c,
+    };
+    let d = Row {
+        a: 0,
+        b: 0,
+        c: x.d,
+        d: y.d,
+    };
+    Rows { a, b, c, d }
+}
+
+// The cross product of an edge e and the edge from a to b, by the rows of a and b.
+pub fn cross_parts(e: Vector, a: Vector, b: Vector, p: Row, q: Row, v: Row, w: Row) -> bool
+    requires { ⌜ (Bounded longest e × Bounded furthest a × Bounded furthest b) × (Bounded-row p × Bounded-row q) × Bounded-row v × Bounded-row w ⌝ }
+    ensures { λ r. ⌜ r ≡ parting-rows (cross-product e (difference b a)) (row-difference p q) (row-difference v w) ⌝ }
+{
+    parts(cross(e, minus(b, a)), row_minus(p, q), row_minus(v, w))
+}
+
+// Whether the cross product of the edge from i to j and an edge of t parts the two, where x and y are the rows of t along
+// the normals of the faces i, j, m and i, j, w.
+pub fn edge_parts(i: Vector, j: Vector, t: Corners, x: Row, y: Row) -> bool
+    requires { ⌜ (Bounded furthest i × Bounded furthest j) × In-range t × Bounded-row x × Bounded-row y ⌝ }
+    ensures { λ r. ⌜ ((m w : Vector) → x ≡ row-of (normal-of i j m) t → y ≡ row-of (normal-of i j w) t → r ≡ any-parting (crosses-of (difference j i) (edge-vectors t)) (record { a = i; b = j; c = m; d = w }) t) ⌝ }
+{
+    let e = minus(j, i);
+    let p = sides(x, y);
+    let q = across(e, seen_from(i, t));
+    if cross_parts(e, t.a, t.b, p.a, p.b, q.a, q.b) {
+        return true;
+    }
+    if cross_parts(e, t.a, t.c, p.a, p.c, q.a, q.c) {
+        return true;
+    }
+    if cross_parts(e, t.a, t.d, p.a, p.d, q.a, q.d) {
+        return true;
+    }
+    if cross_parts(e, t.b, t.c, p.b, p.c, q.b, q.c) {
+        return true;
+    }
+    if cross_parts(e, t.b, t.d, p.b, p.d, q.b, q.d) {
+        return true;
+    }
+    cross_parts(e, t.c, t.d, p.c, p.d, q.c, q.d)
+}
+
+// Whether the cross product of an edge of s and an edge of t parts them; x has the rows along the face normals of s.
+pub fn edges_part(s: Corners, t: Corners, x: Faces) -> bool
+    requires { ⌜ In-range s × In-range t × (x ≡ faces-of s t) ⌝ }
     ensures { λ r. ⌜ r ≡ any-parting (all-crosses-of (edge-vectors s) (edge-vectors t)) s t ⌝ }
 {
-    if edge_parts(s.a, s.b, s, t) {
+    if edge_parts(s.a, s.b, t, x.abc, x.abd) {
         return true;
     }
-    if edge_parts(s.a, s.c, s, t) {
+    if edge_parts(s.a, s.c, t, back(x.abc), x.acd) {
         return true;
     }
-    if edge_parts(s.a, s.d, s, t) {
+    if edge_parts(s.a, s.d, t, back(x.abd), back(x.acd)) {
         return true;
     }
-    if edge_parts(s.b, s.c, s, t) {
+    if edge_parts(s.b, s.c, t, x.abc, x.bcd) {
         return true;
     }
-    if edge_parts(s.b, s.d, s, t) {
+    if edge_parts(s.b, s.d, t, x.abd, back(x.bcd)) {
         return true;
     }
-    edge_parts(s.c, s.d, s, t)
+    edge_parts(s.c, s.d, t, x.acd, x.bcd)
 }
 
 // Whether some direction of the 44 parts the two; left at the first that does.
@@ -206,11 +356,13 @@ pub fn are_apart(points: &[i32], f: Four, g: Four) -> bool
 {
     let s = corner_points(points, f);
     let t = corner_points(points, g);
-    if normals_part(s, s, t) {
+    let x = faces_against(s, t);
+    if x.parted {
         return true;
     }
-    if normals_part(t, s, t) {
+    let y = faces_against(t, s);
+    if y.parted {
         return true;
     }
-    edges_part(s, t)
+    edges_part(s, t, x)
 }

@@ -5,7 +5,7 @@ ghost use lib.IntN.{pos, natAbs};
 ghost use Rattle.geometry.specs.Space.{points-in};
 ghost use Rattle.geometry.specs.Range.{furthest, longest, Bounded, In-range, Present};
 ghost use Rattle.geometry.specs.Vectors.{square-of, squares-of};
-ghost use Rattle.geometry.specs.Measure.{shape-number, sizes, millionths, millionths-of, refused, measured-four, Measures};
+ghost use Rattle.geometry.specs.Measure.{number-of, shape-number, sizes, millionths, millionths-of, refused, measured-four, Measures};
 use crate::range::any_far;
 use crate::tetrahedron::Corners;
 use crate::tetrahedron::Four;
@@ -74,6 +74,17 @@ pub fn millionths_of(m: Measurement) -> u32
             let x = Quality::of(q);
             x.millionths
         }
+    }
+}
+
+// The number that a refusal gives, 0 for any other measurement.
+pub fn number_of(m: Measurement) -> u32
+    ensures { λ r. ⌜ r ≡ number-of m ⌝ }
+{
+    match m {
+        Measurement::Refused(n) => n,
+        Measurement::Flat => 0,
+        Measurement::Shape(_) => 0,
     }
 }
 

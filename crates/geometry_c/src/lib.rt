@@ -4,7 +4,6 @@ pub mod checked;
 
 ghost use mathlib.Core.Path.{_≡_};
 ghost use Rattle.geometry.specs.Space.{four};
-ghost use Rattle.geometry.specs.Measure.{number-of};
 ghost use Rattle.geometry_c.specs.Checked.{present, yes-or-no, volume-answer, inside-answer, apart-answer, four-from, Row, measure-answer};
 use checked::NO;
 use checked::Volume;
@@ -13,9 +12,9 @@ use checked::apart;
 use checked::inside;
 use checked::is_present;
 use checked::volume_of;
-use geometry::measure::Measurement;
 use geometry::measure::measure;
 use geometry::measure::millionths_of;
+use geometry::measure::number_of;
 use geometry::tetrahedron::Four;
 
 #[repr(C)]
@@ -93,16 +92,6 @@ fn four_from(f: usize) -> Four
         b: f + 1,
         c: f + 2,
         d: f + 3,
-    }
-}
-
-fn number_of(answer: Measurement) -> u32
-    ensures { λ r. ⌜ r ≡ number-of answer ⌝ }
-{
-    match answer {
-        Measurement::Refused(n) => n,
-        Measurement::Flat => 0,
-        Measurement::Shape(_) => 0,
     }
 }
 

@@ -1,8 +1,6 @@
 -- `geometry::apart::cross_parts` meets its contract. Assumes nothing.
-use mathlib.Core.Path.{_≡_, refl, sym, ap, _∙_}
-use Rattle.geometry.specs.Vectors.{parting}
-use Rattle.geometry.proofs.Tried.{by-edges}
 use borrow.Author.Needs.{needs}
+use Rattle.geometry.proofs.Tried.{rows-at}
 use Rattle.geometry.proofs.apart.cross_parts.Statement.{statement}
 use Rattle.geometry.proofs.apart.cross_parts.Tie as tie
 
@@ -12,13 +10,17 @@ minus-requires c κs = search needs
 cross-requires : tie.Need-cross-requires
 cross-requires c κs = search needs
 
+row-minus-requires : tie.Need-row-minus-requires
+row-minus-requires c κs = search needs
+
+row-minus-requires-2 : tie.Need-row-minus-requires-2
+row-minus-requires-2 c κs = search needs
+
 parts-requires : tie.Need-parts-requires
 parts-requires c κs = search needs
 
 returns : tie.Need-returns
-returns c =
-    let s = c .before .before .before .args in
-    by-edges (s .s) (s .t) (c .parts .ensures) (c .before .cross .ensures .0) refl (c .before .before .minus .ensures .0)
+returns c = rows-at (c .before .before .before .before .before .args .e) (c .parts .ensures) (c .before .before .before .cross .ensures .0) (c .before .before .before .before .minus .ensures .0) (c .before .before .row-minus .ensures) (c .before .row-minus2 .ensures)
 
 pub cross-parts-spec : {M : Type 1} → statement M
-cross-parts-spec = tie.close (tie.spec minus-requires cross-requires parts-requires returns)
+cross-parts-spec = tie.close (tie.spec minus-requires cross-requires row-minus-requires row-minus-requires-2 parts-requires returns)

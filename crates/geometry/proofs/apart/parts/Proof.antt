@@ -1,46 +1,33 @@
 -- `geometry::apart::parts` meets its contract. Assumes nothing.
-use mathlib.Core.Path.{_≡_, refl, sym, ap, _∙_}
-use Rattle.geometry.proofs.Tried.{zero-parts-nothing, parts-one-way, other-way-decides, beyond-at, short-at}
+use mathlib.Core.Path.{sym, ap, _∙_}
+use mathlib.Core.Bool.{not}
 use borrow.Author.Needs.{needs}
+use borrow.Author.Tests.{not-true, not-false}
+use Rattle.geometry.proofs.Tried.{clear-at, not-clear, direction-decides}
 use Rattle.geometry.proofs.apart.parts.Statement.{statement}
 use Rattle.geometry.proofs.apart.parts.Tie as tie
+
+extent-in-requires : tie.Need-extent-in-requires
+extent-in-requires c κs = search needs
+
+extent-in-requires-2 : tie.Need-extent-in-requires-2
+extent-in-requires-2 c κs = search needs
+
+are-clear-requires : tie.Need-are-clear-requires
+are-clear-requires c κs = search needs
+
+returns : tie.Need-returns
+returns c =
+    let a = c .before .before .before .before .args in
+    not-clear (a .n) (a .p) (a .q) (sym (clear-at (c .before .are-clear .ensures) (c .before .before .before .extent-in .ensures) (c .before .before .extent-in2 .ensures)) ∙ not-true (c .before .are-clear .result) (c .if1 .taken))
 
 no-direction-requires : tie.Need-no-direction-requires
 no-direction-requires c κs = search needs
 
-returns : tie.Need-returns
-returns c = let s = c .before .before .args in zero-parts-nothing (s .s) (s .t) (s .n) (sym (c .before .no-direction .ensures) ∙ c .if1 .taken)
-
-extent-along-requires : tie.Need-extent-along-requires
-extent-along-requires c κs = search needs
-
-lies-beyond-requires : tie.Need-lies-beyond-requires
-lies-beyond-requires c κs = search needs
-
 returns-2 : tie.Need-returns-2
 returns-2 c =
-    let s = c .before .before .before .before .before .args in
-    parts-one-way (s .s) (s .t) (s .n) (sym (c .before .before .before .before .no-direction .ensures) ∙ c .before .before .before .if1 .left)
-    (sym (beyond-at (s .n) (s .t) (c .before .lies-beyond .ensures) (c .before .before .extent-along .ensures)) ∙ c .if2 .taken)
-
-lies-short-requires : tie.Need-lies-short-requires
-lies-short-requires c κs = search needs
-
-returns-3 : tie.Need-returns-3
-returns-3 c =
-    let s = c .before .before .before .before .before .before .args in
-    short-at (s .n) (s .t) (c .lies-short .ensures) (c .before .before .before .extent-along .ensures)
-    ∙ other-way-decides (s .s) (s .t) (s .n) (sym (c .before .before .before .before .before .no-direction .ensures) ∙ c .before .before .before .before .if1 .left)
-    (sym (beyond-at (s .n) (s .t) (c .before .before .lies-beyond .ensures) (c .before .before .before .extent-along .ensures)) ∙ c .before .if2 .left)
+    let a = c .before .before .before .before .before .args in
+    ap not (c .no-direction .ensures) ∙ direction-decides (a .n) (a .p) (a .q) (sym (clear-at (c .before .before .are-clear .ensures) (c .before .before .before .before .extent-in .ensures) (c .before .before .before .extent-in2 .ensures)) ∙ not-false (c .before .before .are-clear .result) (c .before .if1 .left))
 
 pub parts-spec : {M : Type 1} → statement M
-parts-spec =
-    tie.close
-    (tie.spec
-    no-direction-requires
-    returns
-    extent-along-requires
-    lies-beyond-requires
-    returns-2
-    lies-short-requires
-    returns-3)
+parts-spec = tie.close (tie.spec extent-in-requires extent-in-requires-2 are-clear-requires returns no-direction-requires returns-2)

@@ -1,0 +1,12 @@
+pub mod Entries
+pub mod MarkedNumbers
+pub mod HeldValue
+pub mod LaidOut
+pub mod Shown
+pub mod HeldMesh
+pub mod Answers
+pub mod OpenAnswers
+pub mod GrowAnswers
+pub mod GrowDone
+pub mod LoadAnswers
+pub mod ReplaceAnswers

@@ -1,0 +1,89 @@
+// Replace (document 01): the cavity's best filling in its place, where the worst quality rises. Assumes nothing.
+use crate::bench::Answer;
+use crate::bench::Bench;
+use crate::held::state;
+use refill::refill::Refilled;
+use refill::refill::refill;
+ghost use mathlib.Core.Path.{_≡_};
+ghost use Prim.Native.Nat.{_+_, min};
+ghost use Rattle.bench_rules.specs.Bench.{held, top-count};
+ghost use Rattle.mesh.specs.State.{state-of};
+ghost use Rattle.bench.specs.Store.{shown, Replaces};
+ghost use Rattle.bench.specs.Parts.{refilled};
+
+// One more, stopping at the top.
+fn next_count(count: u32) -> u32
+    ensures { λ r. ⌜ r ≡ min (count + 1) top-count ⌝ }
+{
+    if count == 4_294_967_295 {
+        return count;
+    }
+    count + 1
+}
+
+// The new mesh in the old one's place, no cavity, and one more in the count.
+fn with_tets(b: Bench, f: Refilled) -> Bench
+    ensures { λ r. ⌜ r ≡ refilled b f ⌝ }
+{
+    let points = b.points;
+    let tets = f.tets;
+    let qualities = f.qualities;
+    Bench {
+        points,
+        tets,
+        qualities,
+        in_cavity: [0; 256],
+        in_points: [0; 64],
+        point_count: b.point_count,
+        tet_count: f.tet_count,
+        count: next_count(b.count),
+        open: 0,
+    }
+}
+
+fn replace_cavity(b: Bench) -> Answer
+    requires { ⌜ state-of (held (shown b)) ≡ 2 ⌝ }
+    ensures { λ r. ⌜ Replaces b r ⌝ }
+{
+    let points = b.points;
+    let tets = b.tets;
+    let qualities = b.qualities;
+    let in_cavity = b.in_cavity;
+    let in_points = b.in_points;
+    let p = b.point_count as usize * 3;
+    let t = b.tet_count as usize * 4;
+    let q = b.tet_count as usize;
+    let f = refill(
+        &points[..p],
+        &tets[..t],
+        &qualities[..q],
+        &in_cavity,
+        &in_points,
+    );
+    let number = f.number;
+    if number != 0 {
+        return Answer { number, bench: b };
+    }
+    let bench = with_tets(b, f);
+    Answer { number: 0, bench }
+}
+
+// Refuses 31, 33, then 36, 37, 38.
+pub fn replace(b: Bench) -> Answer
+    ensures { λ r. ⌜ Replaces b r ⌝ }
+{
+    let s = state(b);
+    if s == 0 {
+        return Answer {
+            number: 31,
+            bench: b,
+        };
+    }
+    if s == 1 {
+        return Answer {
+            number: 33,
+            bench: b,
+        };
+    }
+    replace_cavity(b)
+}

@@ -1,0 +1,102 @@
+// How many operations were played and values compared, and how many agree.
+use lines::tally::next;
+use lines::tally::print;
+use lines::tally::print_count;
+
+pub struct Tally {
+    pub lines: u64,
+    pub unread: u64,
+    pub loads: u64,
+    pub opens: u64,
+    pub grows: u64,
+    pub replaces: u64,
+    pub closes: u64,
+    // Operations by the number they gave.
+    pub numbers: [u64; 39],
+    pub values: u64,
+    pub agree: u64,
+    pub differ: u64,
+}
+
+// The most lines that are named as different.
+const NAMED: u64 = 5;
+
+impl Tally {
+    pub fn new() -> Self {
+        Tally {
+            lines: 0,
+            unread: 0,
+            loads: 0,
+            opens: 0,
+            grows: 0,
+            replaces: 0,
+            closes: 0,
+            numbers: [0; 39],
+            values: 0,
+            agree: 0,
+            differ: 0,
+        }
+    }
+
+    pub fn with_comparison(mut self, is_agreeing: bool) -> Self {
+        if is_agreeing {
+            self.agree = next(self.agree);
+            return self;
+        }
+        self.differ = next(self.differ);
+        if self.differ <= NAMED {
+            print(b"differs: line ");
+            print_count(self.lines, b"\n");
+        }
+        self
+    }
+
+    pub fn with_unread(mut self) -> Self {
+        self.unread = next(self.unread);
+        self.with_comparison(false)
+    }
+
+    pub fn with_value(mut self, is_agreeing: bool) -> Self {
+        self.values = next(self.values);
+        self.with_comparison(is_agreeing)
+    }
+
+    // An operation by its letter, the number it gave, and the number that stands in the line.
+    pub fn with_operation(mut self, letter: u8, number: u32, expected: u32) -> Self {
+        match letter {
+            b'L' => self.loads = next(self.loads),
+            b'O' => self.opens = next(self.opens),
+            b'G' => self.grows = next(self.grows),
+            b'R' => self.replaces = next(self.replaces),
+            _ => self.closes = next(self.closes),
+        }
+        let k = number as usize;
+        if k < 39 {
+            self.numbers[k] = next(self.numbers[k]);
+        }
+        self.with_comparison(number == expected)
+    }
+
+    fn print_numbers(self) {
+        for k in 0..39 {
+            if self.numbers[k] > 0 {
+                print_count(self.numbers[k], b" gave ");
+                print_count(k as u64, b"\n");
+            }
+        }
+    }
+
+    pub fn print(self) {
+        print_count(self.lines, b" lines, ");
+        print_count(self.unread, b" unread\n");
+        print_count(self.loads, b" loads, ");
+        print_count(self.opens, b" opens, ");
+        print_count(self.grows, b" grows, ");
+        print_count(self.replaces, b" replaces, ");
+        print_count(self.closes, b" closes\n");
+        self.print_numbers();
+        print_count(self.values, b" values compared\n");
+        print_count(self.agree, b" agree, ");
+        print_count(self.differ, b" differ\n");
+    }
+}

@@ -1,0 +1,70 @@
+-- `refill::place::cavity_points` meets its contract. The loop's invariant: the list holds the cavity's points among those passed. Assumes nothing.
+use mathlib.Core.Path.{_≡_, ap, _∙_}
+use mathlib.Core.Logic.{⊎-elim}
+use Prim.Native.Nat.{_-_, _/_, _≤_}
+use native.Mathlib.Omega.{arith}
+use lib.ListN.{length}
+use Rattle.refill.specs.declared.place.CavityPoints.{CavityPoints}
+use Rattle.refill.proofs.Marked.{has-mark, mark-there, mark-absent}
+use Rattle.refill.proofs.PickedPoints.{Picked-points, points-start, points-room, points-taken, points-passed, points-at, points-marked}
+use Rattle.refill.proofs.place.cavity_points.Statement.{statement}
+use Rattle.refill.proofs.place.cavity_points.Tie as tie
+
+abbrev Inv-loop : tie.InvT-loop
+Inv-loop points in-points list₀ p₀ p-end list p =
+    (p ≤ length points / 3) × Picked-points points (has-mark in-points) p (list .number) (list .coordinate) (list .count)
+
+abbrev μ-loop : tie.MeasureT-loop
+μ-loop points in-points list₀ p₀ p-end list p = length points / 3 - p
+
+loop-holds : tie.Need-loop-holds Inv-loop μ-loop
+loop-holds c = let a = c .before .args in (omega arith, points-start (a .points .now) (has-mark (a .in-points .now)))
+
+shared-slice-read-if1 : tie.Need-shared-slice-read-if1 Inv-loop μ-loop
+shared-slice-read-if1 c = omega arith
+
+with-point-requires : tie.Need-with-point-requires Inv-loop μ-loop
+with-point-requires c κs =
+    let s = c .before .before .before .before .before in
+    let l = c .before .before .before .loop in
+    let m = s .args .in-points .now in
+    (points-room m (omega arith) (s .pre .2) (s .pre .3) (l .inv .1) (omega arith) (mark-there m (l .p) (c .if1 .taken)), omega arith, omega arith)
+
+add-p : tie.Need-add-p Inv-loop μ-loop
+add-p c = omega arith
+
+loop-less : tie.Need-loop-less Inv-loop μ-loop
+loop-less c = omega arith
+
+loop-again : tie.Need-loop-again Inv-loop μ-loop
+loop-again c =
+    let s = c .before .before .before .before .before in
+    let l = c .before .before .before .loop in
+    let m = s .args .in-points .now in (
+      omega arith,
+      ⊎-elim
+          (λ w. points-at (ap (λ (x : CavityPoints). x .number) (w .2) ∙ w .1 .ensures .0) (ap (λ (x : CavityPoints). x .coordinate) (w .2) ∙ w .1 .ensures .1) (ap (λ (x : CavityPoints). x .count) (w .2) ∙ w .1 .ensures .2)
+          (let h = mark-there m (l .p) (w .0 .taken) in points-taken (l .inv .1) (omega arith) h (points-room m (omega arith) (s .pre .2) (s .pre .3) (l .inv .1) (omega arith) h)))
+          (λ w. points-at (ap (λ (x : CavityPoints). x .number) (w .1)) (ap (λ (x : CavityPoints). x .coordinate) (w .1)) (ap (λ (x : CavityPoints). x .count) (w .1)) (points-passed (l .inv .1) (mark-absent m (l .p) (w .0 .left))))
+          (c .if1 .came),
+    )
+
+returns : tie.Need-returns Inv-loop μ-loop
+returns c =
+    let s = c .before .before .before in
+    let e : c .before .loop .p ≡ length (s .args .points .now) / 3 = omega arith in
+    points-marked (s .args .in-points .now) (omega arith) (s .pre .2) (rw e at (c .before .loop .inv .1))
+
+pub cavity-points-spec : {M : Type 1} → statement M
+cavity-points-spec =
+    tie.close
+    (tie.spec
+    Inv-loop
+    μ-loop
+    loop-holds
+    shared-slice-read-if1
+    with-point-requires
+    add-p
+    loop-less
+    loop-again
+    returns)
