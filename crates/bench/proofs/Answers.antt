@@ -1,4 +1,4 @@
--- What each operation answers, by what the value handed over holds. Assumes nothing.
+-- A state's number read as what is held, and what close answers. Assumes nothing.
 use mathlib.Core.Path.{_≡_, sym, ap, _∙_}
 use mathlib.Core.List.{[]}
 use Prim.Native.Nat.{ℕ}

@@ -9,7 +9,7 @@ use lib.Dec.{eqb}
 use lib.ListN.{length, getD, take}
 use Rattle.laws.specs.Fours.{from}
 use Rattle.bench_rules.specs.Bench as B
-use Rattle.bench_rules.specs.Bench.{Cavity, mesh, done, with-cavity, spanned, mesh-fours, member, pick, tets-in, met, beats, joins, grow-by}
+use Rattle.bench_rules.specs.Bench.{Cavity, done, with-cavity, spanned, mesh-fours, member, pick, tets-in, met, beats, joins, grow-by}
 use Rattle.bench_rules.specs.Marks.{marked, marks}
 use Rattle.bench_rules.specs.Sound.{marked-cavity}
 use Rattle.bench_rules.proofs.TakenPoints.{getD-among}

@@ -13,7 +13,7 @@ use Rattle.laws.specs.Laws.{fours-in}
 use Rattle.laws.proofs.Points.{points-count}
 use Rattle.laws.proofs.Lists.{Each, more}
 use Rattle.bench_rules.specs.Bench as B
-use Rattle.bench_rules.specs.Bench.{mesh, opened, held, mesh-fours, mesh-qualities}
+use Rattle.bench_rules.specs.Bench.{opened, held, mesh-fours, mesh-qualities}
 use Rattle.bench_rules.specs.Sound.{bench-of, marked-cavity, Marks-within, Corners-below}
 use Rattle.bench_rules.proofs.GoodMesh.{Mesh, held-opened}
 use Rattle.bench_rules.proofs.GoodTets.{Sound, each-sound}

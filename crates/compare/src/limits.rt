@@ -1,0 +1,235 @@
+// The cavities of document 01 that its table of proved ones leaves out: the greatest count of points, the greatest coordinate, the smallest buffer.
+use crate::tally::Tally;
+use crate::trial::is_answer;
+use crate::trial::trial;
+use enumerator::fours::after;
+use enumerator::fours::first;
+use enumerator::fours::how_many;
+use enumerator::fours::is_listed;
+use enumerator::read::put_number;
+use enumerator::read::upto;
+use laws::check::check_job;
+use random_jobs::boundary::put_boundary;
+use random_jobs::damage::NOTHING;
+
+// Two points above and below a ring of fourteen, then one more within.
+const RING: [i32; 51] = [
+    0,
+    0,
+    10,
+    0,
+    0,
+    -10,
+    10,
+    0,
+    0,
+    9,
+    4,
+    0,
+    6,
+    8,
+    0,
+    2,
+    10,
+    0,
+    -2,
+    10,
+    0,
+    -6,
+    8,
+    0,
+    -9,
+    4,
+    0,
+    -10,
+    0,
+    0,
+    -9,
+    -4,
+    0,
+    -6,
+    -8,
+    0,
+    -2,
+    -10,
+    0,
+    2,
+    -10,
+    0,
+    6,
+    -8,
+    0,
+    9,
+    -4,
+    0,
+    1,
+    1,
+    1,
+];
+
+// The tetrahedra around the axis of the ring.
+const AROUND: [u8; 56] = [
+    0,
+    1,
+    2,
+    3,
+    0,
+    1,
+    2,
+    15,
+    0,
+    1,
+    3,
+    4,
+    0,
+    1,
+    4,
+    5,
+    0,
+    1,
+    5,
+    6,
+    0,
+    1,
+    6,
+    7,
+    0,
+    1,
+    7,
+    8,
+    0,
+    1,
+    8,
+    9,
+    0,
+    1,
+    9,
+    10,
+    0,
+    1,
+    10,
+    11,
+    0,
+    1,
+    11,
+    12,
+    0,
+    1,
+    12,
+    13,
+    0,
+    1,
+    13,
+    14,
+    0,
+    1,
+    14,
+    15,
+];
+
+const A: [u8; 12] = [0, 2, 1, 0, 1, 3, 0, 3, 2, 1, 2, 3];
+
+const CORNER: [u8; 4] = [0, 1, 2, 3];
+
+// A job, the number that the checker gives it, and the trial of it.
+fn limit(
+    points: &[i32],
+    triangles: &[u8],
+    kept: &[u8],
+    table: &[i32],
+    chosen: &[u8],
+    number: u32,
+    tally: Tally,
+) -> Tally {
+    let is_same = check_job(points, triangles, kept, table) == number;
+    let t = tally.with_comparison(is_same, 0, b"limit: job ");
+    trial(0, points, triangles, kept, table, chosen, t)
+}
+
+// 1 for the fours of the list, 0 for the others.
+fn put_open(n: usize, list: &[u8], out: &mut [i32]) {
+    let mut f = first();
+    for k in 0..how_many(n) {
+        put_number(out, k, if is_listed(list, f) { 1 } else { 0 });
+        f = after(f, n);
+    }
+}
+
+// 16 points are accepted, 17 are not.
+fn with_both(
+    sixteen: &[i32],
+    seventeen: &[i32],
+    triangles: &[u8],
+    table: &[i32],
+    around: &[u8],
+    tally: Tally,
+) -> Tally {
+    let t = limit(sixteen, triangles, b"\x00\x01", table, around, 0, tally);
+    limit(seventeen, triangles, b"", table, around, 2, t)
+}
+
+fn with_ring(tally: Tally) -> Tally {
+    let points = RING;
+    let around = AROUND;
+    let mut table = [0i32; 1820];
+    put_open(16, &around, &mut table);
+    let mut triangles = [0u8; 96];
+    let n = upto(
+        put_boundary(0, NOTHING, &points[0..48], &around, &mut triangles),
+        96,
+    );
+    let all = RING;
+    with_both(
+        &points[0..48],
+        &all,
+        &triangles[0..n],
+        &table,
+        &around,
+        tally,
+    )
+}
+
+// The corner of a cube, with the given size of it along x and z.
+fn with_corner(x: i32, z: i32, number: u32, tally: Tally) -> Tally {
+    let points = [0, 0, 0, x, 0, 0, 0, 10_000, 0, 0, 0, z];
+    let triangles = A;
+    let chosen = CORNER;
+    let table = [1i32];
+    limit(&points, &triangles, b"", &table, &chosen, number, tally)
+}
+
+// The search of the corner of a cube into a buffer.
+fn with_buffer(answer: &mut [u8], number: u32, worst: u32, list: &[u8], tally: Tally) -> Tally {
+    let points = [0, 0, 0, 1, 0, 0, 0, 1, 0, 0, 0, 1];
+    let triangles = A;
+    let table = [592_592i32];
+    let is_same = is_answer(
+        &points,
+        &triangles,
+        b"",
+        &table,
+        number,
+        worst,
+        list,
+        answer,
+    );
+    tally.with_answer(number, is_same, 0)
+}
+
+// A buffer of 7,280 bytes is enough, one of 7,279 is not and stays as it is.
+fn with_buffers(tally: Tally) -> Tally {
+    let mut enough = [0u8; 7280];
+    let mut short = [0u8; 7279];
+    let list = CORNER;
+    let t = with_buffer(&mut enough, 0, 592_592, &list, tally);
+    with_buffer(&mut short, 14, 0, b"", t)
+}
+
+pub fn with_limits(tally: Tally) -> Tally {
+    let t = with_ring(tally);
+    let t2 = with_corner(10_000, 10_000, 0, t);
+    let t3 = with_corner(10_001, 10_000, 3, t2);
+    let t4 = with_corner(-10_000, -10_000, 0, t3);
+    let t5 = with_corner(10_000, -10_001, 3, t4);
+    with_buffers(t5)
+}

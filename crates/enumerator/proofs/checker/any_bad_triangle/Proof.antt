@@ -1,0 +1,50 @@
+-- `enumerator::checker::any_bad_triangle` is safe and ends. Assumes nothing.
+use Prim.Native.Nat.{_-_}
+use borrow.Author.Needs.{needs}
+use Rattle.enumerator.proofs.checker.any_bad_triangle.Statement.{statement}
+use Rattle.enumerator.proofs.checker.any_bad_triangle.Tie as tie
+
+abbrev Inv-loop : tie.InvT-loop
+Inv-loop triangles n i₀ i-end i = Unit {0}
+
+abbrev μ-loop : tie.MeasureT-loop
+μ-loop triangles n i₀ i-end i = i-end - i
+
+loop-holds : tie.Need-loop-holds Inv-loop μ-loop
+loop-holds c = search needs
+
+triangle-at-requires : tie.Need-triangle-at-requires Inv-loop μ-loop
+triangle-at-requires c κs = search needs
+
+is-bad-triangle-requires : tie.Need-is-bad-triangle-requires Inv-loop μ-loop
+is-bad-triangle-requires c κs = search needs
+
+returns : tie.Need-returns Inv-loop μ-loop
+returns c = search needs
+
+add-i : tie.Need-add-i Inv-loop μ-loop
+add-i c = search needs
+
+loop-less : tie.Need-loop-less Inv-loop μ-loop
+loop-less c = search needs
+
+loop-again : tie.Need-loop-again Inv-loop μ-loop
+loop-again c = search needs
+
+returns-2 : tie.Need-returns-2 Inv-loop μ-loop
+returns-2 c = search needs
+
+pub any-bad-triangle-spec : {M : Type 1} → statement M
+any-bad-triangle-spec =
+    tie.close
+    (tie.spec
+    Inv-loop
+    μ-loop
+    loop-holds
+    triangle-at-requires
+    is-bad-triangle-requires
+    returns
+    add-i
+    loop-less
+    loop-again
+    returns-2)

@@ -1,0 +1,50 @@
+-- `enumerator::checker::how_often` is safe and ends. Assumes nothing.
+use Prim.Native.Nat.{_-_}
+use borrow.Author.Needs.{needs}
+use Rattle.enumerator.proofs.checker.how_often.Statement.{statement}
+use Rattle.enumerator.proofs.checker.how_often.Tie as tie
+
+abbrev Inv-loop : tie.InvT-loop
+Inv-loop triangles p q n₀ i₀ i-end n i = Unit {0}
+
+abbrev μ-loop : tie.MeasureT-loop
+μ-loop triangles p q n₀ i₀ i-end n i = i-end - i
+
+loop-holds : tie.Need-loop-holds Inv-loop μ-loop
+loop-holds c = search needs
+
+triangle-at-requires : tie.Need-triangle-at-requires Inv-loop μ-loop
+triangle-at-requires c κs = search needs
+
+runs-requires : tie.Need-runs-requires Inv-loop μ-loop
+runs-requires c κs = search needs
+
+up-requires : tie.Need-up-requires Inv-loop μ-loop
+up-requires c κs = search needs
+
+add-i : tie.Need-add-i Inv-loop μ-loop
+add-i c = search needs
+
+loop-less : tie.Need-loop-less Inv-loop μ-loop
+loop-less c = search needs
+
+loop-again : tie.Need-loop-again Inv-loop μ-loop
+loop-again c = search needs
+
+returns : tie.Need-returns Inv-loop μ-loop
+returns c = search needs
+
+pub how-often-spec : {M : Type 1} → statement M
+how-often-spec =
+    tie.close
+    (tie.spec
+    Inv-loop
+    μ-loop
+    loop-holds
+    triangle-at-requires
+    runs-requires
+    up-requires
+    add-i
+    loop-less
+    loop-again
+    returns)

@@ -1,0 +1,46 @@
+-- `enumerator::checker::is_taken` is safe and ends. Assumes nothing.
+use Prim.Native.Nat.{_-_}
+use borrow.Author.Needs.{needs}
+use Rattle.enumerator.proofs.checker.is_taken.Statement.{statement}
+use Rattle.enumerator.proofs.checker.is_taken.Tie as tie
+
+abbrev Inv-loop : tie.InvT-loop
+Inv-loop points p q₀ q = Unit {0}
+
+abbrev μ-loop : tie.MeasureT-loop
+μ-loop points p q₀ q = p - q
+
+loop-holds : tie.Need-loop-holds Inv-loop μ-loop
+loop-holds c = search needs
+
+is-one-place-requires : tie.Need-is-one-place-requires Inv-loop μ-loop
+is-one-place-requires c κs = search needs
+
+returns : tie.Need-returns Inv-loop μ-loop
+returns c = search needs
+
+add-q : tie.Need-add-q Inv-loop μ-loop
+add-q c = search needs
+
+loop-less : tie.Need-loop-less Inv-loop μ-loop
+loop-less c = search needs
+
+loop-again : tie.Need-loop-again Inv-loop μ-loop
+loop-again c = search needs
+
+returns-2 : tie.Need-returns-2 Inv-loop μ-loop
+returns-2 c = search needs
+
+pub is-taken-spec : {M : Type 1} → statement M
+is-taken-spec =
+    tie.close
+    (tie.spec
+    Inv-loop
+    μ-loop
+    loop-holds
+    is-one-place-requires
+    returns
+    add-q
+    loop-less
+    loop-again
+    returns-2)

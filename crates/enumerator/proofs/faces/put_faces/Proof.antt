@@ -1,0 +1,56 @@
+-- `enumerator::faces::put_faces` is safe and ends. Assumes nothing.
+use Prim.Native.Nat.{_-_}
+use mathlib.Core.Path.{_≡_}
+use lib.ListN.{length}
+use borrow.Author.Needs.{needs}
+use Rattle.enumerator.proofs.faces.put_faces.Statement.{statement}
+use Rattle.enumerator.proofs.faces.put_faces.Tie as tie
+
+abbrev Inv-loop : tie.InvT-loop
+Inv-loop points list out₀ i₀ i-end out i = length out ≡ length out₀
+
+abbrev μ-loop : tie.MeasureT-loop
+μ-loop points list out₀ i₀ i-end out i = i-end - i
+
+loop-holds : tie.Need-loop-holds Inv-loop μ-loop
+loop-holds c = search needs
+
+listed-requires : tie.Need-listed-requires Inv-loop μ-loop
+listed-requires c κs = search needs
+
+start-requires : tie.Need-start-requires Inv-loop μ-loop
+start-requires c κs = search needs
+
+put-four-faces-requires : tie.Need-put-four-faces-requires Inv-loop μ-loop
+put-four-faces-requires c κs = search needs
+
+add-i : tie.Need-add-i Inv-loop μ-loop
+add-i c = search needs
+
+loop-less : tie.Need-loop-less Inv-loop μ-loop
+loop-less c = search needs
+
+loop-again : tie.Need-loop-again Inv-loop μ-loop
+loop-again c = search needs
+
+same-length : tie.Need-same-length Inv-loop μ-loop
+same-length c = search needs
+
+returns : tie.Need-returns Inv-loop μ-loop
+returns c = search needs
+
+pub put-faces-spec : {M : Type 1} → statement M
+put-faces-spec =
+    tie.close
+    (tie.spec
+    Inv-loop
+    μ-loop
+    loop-holds
+    listed-requires
+    start-requires
+    put-four-faces-requires
+    add-i
+    loop-less
+    loop-again
+    same-length
+    returns)

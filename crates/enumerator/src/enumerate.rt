@@ -1,0 +1,162 @@
+// Every lawful filling of a job, straight from the laws: each subset of the fours that keep law 2 is tried, in no clever order and with nothing left out.
+use crate::fours::after;
+use crate::fours::first;
+use crate::fours::how_many;
+use crate::fours::listed;
+use crate::fours::put_four;
+use crate::read::byte_at;
+use crate::read::offset;
+use crate::read::start;
+use crate::read::up;
+use crate::read::upto;
+use crate::rules::has_quality;
+use crate::rules::lowest_broken;
+use crate::rules::worst;
+
+// The most fours of which every subset is tried.
+pub const MOST: usize = 15;
+
+// The bytes that a list of fours has room for here: 16 fours.
+pub const ROOM: usize = 64;
+
+// What the enumerator found: how many fillings are lawful, how many of them have the best worst quality, that quality, and which subset is the first list
+// of those.
+pub struct Best {
+    pub lawful: u64,
+    pub ties: u64,
+    pub worst: u32,
+    pub subset: usize,
+}
+
+// Puts the fours that keep law 2 at the start of out, in order; how many there are, which may be more than out has room for.
+pub fn put_pool(points: &[i32], table: &[i32], out: &mut [u8]) -> usize {
+    let n = points.len() / 3;
+    let mut m: usize = 0;
+    let mut f = first();
+    for k in 0..how_many(n) {
+        put_four(out, start(m, 4), f);
+        if has_quality(points, table, f) {
+            m = up(m);
+        }
+        f = after(f, n);
+    }
+    m
+}
+
+// How many subsets m fours have, where they are at most 15.
+pub fn subsets(m: usize) -> usize {
+    let mut n: usize = 1;
+    for k in 0..upto(m, MOST) {
+        n = offset(n, n);
+    }
+    n
+}
+
+// Puts the s-th subset of the pool at the start of out, in order; how many bytes that is.
+pub fn put_subset(pool: &[u8], s: usize, out: &mut [u8]) -> usize {
+    let mut n: usize = 0;
+    let mut rest = s;
+    for k in 0..pool.len() / 4 {
+        put_four(out, n, listed(pool, k));
+        if rest % 2 == 1 {
+            n = offset(n, 4);
+        }
+        rest = rest / 2;
+    }
+    n
+}
+
+// Whether the list a comes before the list b: the smaller number at the first place where they differ, or the start of the longer one.
+fn comes_first(a: &[u8], b: &[u8]) -> bool {
+    for i in 0..a.len() {
+        if i >= b.len() {
+            return false;
+        }
+        if byte_at(a, i) != byte_at(b, i) {
+            return byte_at(a, i) < byte_at(b, i);
+        }
+    }
+    a.len() < b.len()
+}
+
+// Whether the list comes before the s-th subset.
+fn is_before(pool: &[u8], list: &[u8], s: usize) -> bool {
+    let mut room = [0u8; ROOM];
+    let n = upto(put_subset(pool, s, &mut room), ROOM);
+    comes_first(list, &room[0..n])
+}
+
+fn more(n: u64) -> u64 {
+    if n < u64::MAX { n + 1 } else { n }
+}
+
+fn found(lawful: u64, ties: u64, worst: u32, subset: usize) -> Best {
+    Best {
+        lawful,
+        ties,
+        worst,
+        subset,
+    }
+}
+
+// The best so far, with one more lawful list of worst quality q, which is the s-th subset.
+fn with_lawful(pool: &[u8], list: &[u8], s: usize, q: u32, best: Best) -> Best {
+    let lawful = more(best.lawful);
+    if (best.lawful == 0) | (q > best.worst) {
+        return found(lawful, 1, q, s);
+    }
+    if q < best.worst {
+        return found(lawful, best.ties, best.worst, best.subset);
+    }
+    if is_before(pool, list, best.subset) {
+        return found(lawful, more(best.ties), q, s);
+    }
+    found(lawful, more(best.ties), q, best.subset)
+}
+
+// The best so far, after one more list, which is the s-th subset.
+fn with_list(
+    points: &[i32],
+    triangles: &[u8],
+    kept: &[u8],
+    table: &[i32],
+    pool: &[u8],
+    list: &[u8],
+    s: usize,
+    best: Best,
+) -> Best {
+    if lowest_broken(points, triangles, kept, table, list) != 0 {
+        return best;
+    }
+    with_lawful(pool, list, s, worst(points, table, list), best)
+}
+
+// The best so far, after one more subset.
+fn tried(
+    points: &[i32],
+    triangles: &[u8],
+    kept: &[u8],
+    table: &[i32],
+    pool: &[u8],
+    s: usize,
+    best: Best,
+) -> Best {
+    let mut room = [0u8; ROOM];
+    let n = upto(put_subset(pool, s, &mut room), ROOM);
+    with_list(points, triangles, kept, table, pool, &room[0..n], s, best)
+}
+
+// The best lawful filling, of all the subsets of the pool.
+pub fn best_filling(
+    points: &[i32],
+    triangles: &[u8],
+    kept: &[u8],
+    table: &[i32],
+    pool: &[u8],
+) -> Best {
+    let mut best = found(0, 0, 0, 0);
+    for s in 0..subsets(pool.len() / 4) {
+        best = tried(points, triangles, kept, table, pool, s, best);
+    }
+    best
+}

@@ -1,0 +1,194 @@
+// The points of a job: few, with small coordinates, so that flat fours, inner points, touching and overlaps abound.
+use crate::damage::FAR;
+use crate::damage::FAR_BELOW;
+use crate::damage::HALF_A_POINT;
+use crate::damage::SEVENTEEN_POINTS;
+use crate::damage::THREE_POINTS;
+use crate::damage::damage;
+use crate::random::drawn;
+use crate::random::nth;
+use enumerator::checker::is_taken;
+use enumerator::read::offset;
+use enumerator::read::put_number;
+use enumerator::read::start;
+use enumerator::read::upto;
+
+const STYLE: u64 = 20;
+
+const COORDINATE: u64 = 1000;
+
+// Whether the job is one with a void: a tetrahedron within a tetrahedron, of which the inner one is left empty.
+pub fn has_void(seed: u64) -> bool {
+    seed % 80 == 79
+}
+
+// How many points the job has.
+pub fn size(seed: u64) -> usize {
+    if has_void(seed) {
+        return 8;
+    }
+    match seed % 12 {
+        0 => 4,
+        1..=8 => 5,
+        9..=10 => 6,
+        _ => 7,
+    }
+}
+
+fn whole(v: u64) -> i32 {
+    if v < 1000 { v as i32 } else { 0 }
+}
+
+// v + w, for small ones.
+fn sum(v: u64, w: u64) -> i32 {
+    if v < 1000 {
+        if w < 1000 {
+            return (v + w) as i32;
+        }
+    }
+    0
+}
+
+// One of -3 to 3.
+fn centred(v: u64) -> i32 {
+    match v {
+        0 => -3,
+        1 => -2,
+        2 => -1,
+        3 => 0,
+        4 => 1,
+        5 => 2,
+        _ => 3,
+    }
+}
+
+fn coordinate(seed: u64, place: u64) -> i32 {
+    match drawn(seed, STYLE, 5) {
+        0 => whole(drawn(seed, place, 3)),
+        1 => whole(drawn(seed, place, 5)),
+        2 => centred(drawn(seed, place, 7)),
+        3 => whole(drawn(seed, place, 10)),
+        _ => sum(2, drawn(seed, place, 12)),
+    }
+}
+
+// Whether the first four points lie around the others.
+pub fn is_nested(seed: u64) -> bool {
+    drawn(seed, STYLE, 5) == 4
+}
+
+// Two tetrahedra, one within the other: the outer corners, then a point near each face opposite them.
+const SHELLS: [u64; 24] = [
+    0,
+    0,
+    0,
+    36,
+    0,
+    0,
+    0,
+    36,
+    0,
+    0,
+    0,
+    36,
+    10,
+    10,
+    10,
+    5,
+    10,
+    10,
+    10,
+    5,
+    10,
+    10,
+    10,
+    5,
+];
+
+fn shell_coordinate(seed: u64, i: usize) -> i32 {
+    let shells = SHELLS;
+    if i >= 24 {
+        return 0;
+    }
+    let v = shells[i];
+    sum(v, drawn(seed, nth(COORDINATE, i), 3))
+}
+
+// How many coordinates of the shells the job has: both, the outer one, or none.
+fn shell_coordinates(seed: u64) -> usize {
+    if has_void(seed) {
+        return 24;
+    }
+    if is_nested(seed) { 12 } else { 0 }
+}
+
+// Puts the first n coordinates of the shells.
+fn put_shells(seed: u64, n: usize, out: &mut [i32]) {
+    for i in 0..n {
+        put_number(out, i, shell_coordinate(seed, i));
+    }
+}
+
+fn put_point(seed: u64, p: usize, row: u64, out: &mut [i32]) {
+    let at = start(p, 3);
+    for i in 0..3 {
+        let k = offset(at, i);
+        put_number(out, k, coordinate(seed, nth(row, k)));
+    }
+}
+
+// Point p, drawn again where an earlier one is in its place, but once only: now and then two points stay in one place.
+fn put_fresh_point(seed: u64, p: usize, out: &mut [i32]) {
+    for t in 0..2 {
+        put_point(
+            seed,
+            p,
+            nth(COORDINATE, offset(start(t, 12), start(t, 12))),
+            out,
+        );
+        if !is_taken(out, p) {
+            return;
+        }
+    }
+}
+
+fn put_all(seed: u64, out: &mut [i32]) {
+    for p in 0..size(seed) {
+        put_fresh_point(seed, p, out);
+    }
+}
+
+// A coordinate out of range.
+fn put_far(d: u64, out: &mut [i32]) {
+    if d == FAR {
+        put_number(out, 4, 10_001);
+        return;
+    }
+    if d == FAR_BELOW {
+        put_number(out, 2, -10_001);
+    }
+}
+
+// How many coordinates are handed over.
+fn how_many_coordinates(seed: u64, d: u64) -> usize {
+    let n = start(size(seed), 3);
+    if d == HALF_A_POINT {
+        return upto(n, n / 2 + 4);
+    }
+    if d == THREE_POINTS {
+        return 9;
+    }
+    if d == SEVENTEEN_POINTS {
+        return 51;
+    }
+    n
+}
+
+// Puts the coordinates at the start of out; how many there are.
+pub fn put_points(seed: u64, out: &mut [i32]) -> usize {
+    let d = damage(seed);
+    put_all(seed, out);
+    put_shells(seed, shell_coordinates(seed), out);
+    put_far(d, out);
+    how_many_coordinates(seed, d)
+}
