@@ -1,0 +1,635 @@
+//! Cottontuff, the cavity kernel, for Rust: the functions of include/cottontuff.h behind safe ones. The field names and numbers are document 01's.
+//!
+//! `rt staticlib cottontuff` writes target/staticlib/libcottontuff.a; then `rustc -L native=target/staticlib` links a crate that has this file as a module.
+//! Every function takes any lists and answers: a filling, a verdict, or a `Number`. Nothing here panics on an input, and a refusal changes no lent byte.
+//! The search wants a thread with 1.5 MB of stack; threads of std have 2 MB.
+//!
+//! ```
+//! use cottontuff::{search, Job, Number};
+//!
+//! let job = Job {
+//!     points: &[0, 0, 0, 6, 0, 0, 0, 6, 0, 1, 1, 5, 1, 1, -5],
+//!     triangles: &[0, 1, 3, 1, 2, 3, 2, 0, 3, 1, 0, 4, 2, 1, 4, 0, 2, 4],
+//!     kept: &[],
+//!     table: &[500000, 400000, 450000, 450000, 460000],
+//! };
+//! let filling = search(&job)?;
+//! assert_eq!(filling.fours, [[0, 1, 3, 4], [0, 2, 3, 4], [1, 2, 3, 4]]);
+//! assert_eq!(filling.worst, 450000);
+//! assert_eq!(search(&Job { table: &[500000, 0, 0, 450000, 460000], ..job }), Err(Number::NO_FILLING));
+//! # Ok::<(), Number>(())
+//! ```
+#![allow(dead_code)]
+
+use std::fmt;
+
+/// Bytes of an answer buffer that is never too short: four for each of the 1,820 fours of 16 points.
+pub const ANSWER_BYTES: usize = 7280;
+/// Bytes of the longest printout: 15 for the F line, 24 for each of 1,820 H lines.
+pub const PRINTOUT_BYTES: usize = 43695;
+
+/// The C functions as they stand. A list is a pointer and its count of elements; of a list of none the pointer is not read.
+pub mod c {
+    /// `number`: 0, or 2 to 13, and then the rest is 0. `law`: 0, or the lowest law broken. `worst`: where no law is broken.
+    #[repr(C)]
+    #[derive(Clone, Copy, Debug, PartialEq, Eq)]
+    pub struct Verdict {
+        pub number: u32,
+        pub law: u32,
+        pub worst: u32,
+    }
+
+    /// `number`: 0, or 2 to 15, and then the rest is 0. `count`: tetrahedra of the filling. `worst`: their least quality.
+    #[repr(C)]
+    #[derive(Clone, Copy, Debug, PartialEq, Eq)]
+    pub struct Found {
+        pub number: u32,
+        pub count: u32,
+        pub worst: u32,
+    }
+
+    /// `number`: 0, or 3 or 16, and then the rest is 0. `flat`: 1 or 0; where it is 1, `d`, `shape` and `millionths` are 0.
+    #[repr(C)]
+    #[derive(Clone, Copy, Debug, PartialEq)]
+    pub struct Measured {
+        pub d: f64,
+        pub s: f64,
+        pub shape: f64,
+        pub number: u32,
+        pub flat: u32,
+        pub millionths: u32,
+    }
+
+    pub use super::Bench;
+
+    /// `number`: 0 and the bench afterwards, or why not and the bench as it was handed over.
+    #[repr(C)]
+    #[derive(Clone, Copy, Debug, PartialEq, Eq)]
+    pub struct BenchAnswer {
+        pub number: u32,
+        pub bench: Bench,
+    }
+
+    #[link(name = "cottontuff", kind = "static")]
+    unsafe extern "C" {
+        pub fn cottontuff_check(
+            points: *const i32,
+            points_len: usize,
+            triangles: *const u8,
+            triangles_len: usize,
+            kept: *const u8,
+            kept_len: usize,
+            table: *const i32,
+            table_len: usize,
+        ) -> u32;
+        pub fn cottontuff_judge(
+            points: *const i32,
+            points_len: usize,
+            triangles: *const u8,
+            triangles_len: usize,
+            kept: *const u8,
+            kept_len: usize,
+            table: *const i32,
+            table_len: usize,
+            list: *const u8,
+            list_len: usize,
+        ) -> Verdict;
+        pub fn cottontuff_search(
+            points: *const i32,
+            points_len: usize,
+            triangles: *const u8,
+            triangles_len: usize,
+            kept: *const u8,
+            kept_len: usize,
+            table: *const i32,
+            table_len: usize,
+            answer: *mut u8,
+            answer_len: usize,
+        ) -> Found;
+        pub fn cottontuff_measure(coordinates: *const i32, coordinates_len: usize) -> Measured;
+        pub fn cottontuff_print(text: *const u8, text_len: usize, out: *mut u8, out_len: usize) -> usize;
+    }
+
+    unsafe extern "C" {
+        pub fn cottontuff_bench_fresh() -> Bench;
+        pub fn cottontuff_bench_load(
+            bench: Bench,
+            points: *const i32,
+            points_len: usize,
+            tets: *const u8,
+            tets_len: usize,
+        ) -> BenchAnswer;
+        pub fn cottontuff_bench_open(bench: Bench, tet: u32) -> BenchAnswer;
+        pub fn cottontuff_bench_grow(bench: Bench) -> BenchAnswer;
+        pub fn cottontuff_bench_replace(bench: Bench) -> BenchAnswer;
+        pub fn cottontuff_bench_close(bench: Bench) -> BenchAnswer;
+    }
+}
+
+/// Why something is refused: document 01's number. It displays as the paper's words.
+#[derive(Clone, Copy, Debug, PartialEq, Eq, PartialOrd, Ord, Hash)]
+pub struct Number(pub u32);
+
+/// A name and the paper's words for each number.
+macro_rules! numbers {
+    ($($name:ident = $value:literal, $words:literal;)*) => {
+        impl Number {
+            $(#[doc = $words] pub const $name: Number = Number($value);)*
+
+            /// Every number of document 01, ascending.
+            pub const ALL: &'static [Number] = &[$(Number::$name),*];
+
+            /// The paper's words for this number; for a number that is not the paper's, none.
+            pub fn words(self) -> Option<&'static str> {
+                match self {
+                    $(Number::$name => Some($words),)*
+                    _ => None,
+                }
+            }
+        }
+    };
+}
+
+numbers! {
+    BAD_TEXT = 1, "text over 65,536 bytes or not of the form";
+    POINT_COUNT = 2, "count of points outside its limits, or list length no multiple of 3";
+    FAR_COORDINATE = 3, "coordinate outside its range";
+    SAME_PLACE = 4, "two points in one place";
+    TRIANGLE_COUNT = 5, "count of triangles outside its limits, or length no multiple of 3";
+    BAD_TRIANGLE = 6, "triangle with an absent or repeated point";
+    SAME_TRIANGLE = 7, "two triangles with the same three points";
+    OPEN_BOUNDARY = 8, "a directed edge of the triangles stands more or less often than its reverse";
+    KEPT_COUNT = 9, "over 120 kept edges, or odd length";
+    BAD_KEPT = 10, "kept edge with an absent or repeated point";
+    TABLE_LENGTH = 11, "table length wrong; in text, a Q for an absent four or a second Q for one";
+    BAD_ENTRY = 12, "entry below −1 or above 1,000,000";
+    UNMEASURED = 13, "solid four unmeasured";
+    SHORT_BUFFER = 14, "answer buffer under 7,280 bytes";
+    NO_FILLING = 15, "no lawful filling exists";
+    NOT_TWELVE = 16, "measuring: not twelve coordinates";
+    TET_COUNT = 17, "mesh: count of tetrahedra outside 1 to 256, or length no multiple of 4";
+    BAD_TET = 18, "mesh: tetrahedron flat, or with an absent or repeated point";
+    SHARED_FACE = 19, "mesh: an outward face belongs to two tetrahedra";
+    NO_SUCH_TET = 20, "open: no such tetrahedron";
+    NO_MESH = 31, "open, grow, replace, close: no mesh loaded";
+    CAVITY_OPEN = 32, "load, open: a cavity is open";
+    NO_CAVITY = 33, "grow, replace, close: none is open";
+    CAVITY_FULL = 34, "grow: 16 points already";
+    NOTHING_AROUND = 35, "grow: A is empty";
+    NOT_BETTER = 36, "replace: no lawful filling has a worst quality above that of C";
+    TOO_MANY_TETS = 37, "replace: over 256 tetrahedra would result";
+    WOULD_SHARE_FACE = 38, "replace: an outward face would belong to two tetrahedra";
+}
+
+impl fmt::Display for Number {
+    fn fmt(&self, f: &mut fmt::Formatter<'_>) -> fmt::Result {
+        match self.words() {
+            Some(words) => write!(f, "{}: {}", self.0, words),
+            None => write!(f, "{}", self.0),
+        }
+    }
+}
+
+impl std::error::Error for Number {}
+
+/// Nothing for 0, else the number as an error.
+fn refused(number: u32) -> Result<(), Number> {
+    if number == 0 {
+        Ok(())
+    } else {
+        Err(Number(number))
+    }
+}
+
+/// A cavity with its qualities. Any lists may stand here; the functions say what is wrong with them.
+#[derive(Clone, Copy, Debug)]
+pub struct Job<'a> {
+    /// x, y, z of each point.
+    pub points: &'a [i32],
+    /// Three point numbers for each boundary triangle, counter-clockwise seen from outside the cavity.
+    pub triangles: &'a [u8],
+    /// Two point numbers for each edge to be kept.
+    pub kept: &'a [u8],
+    /// A quality in millionths for each four of points a < b < c < d in lexicographic order; 0 bars a four, -1 leaves it unmeasured.
+    pub table: &'a [i32],
+}
+
+/// What the judge says of a list.
+#[derive(Clone, Copy, Debug, PartialEq, Eq)]
+pub enum Judgement {
+    /// It keeps all the laws; its worst quality in millionths.
+    Lawful(u32),
+    /// The lowest law that it breaks, 1 to 7.
+    Breaks(u32),
+}
+
+/// How many tetrahedra a filling has, and the least of their qualities, in millionths.
+#[derive(Clone, Copy, Debug, PartialEq, Eq)]
+pub struct Found {
+    pub count: usize,
+    pub worst: u32,
+}
+
+/// A lawful filling, each four with its numbers rising, and the least of their qualities, in millionths.
+#[derive(Clone, Debug, PartialEq, Eq)]
+pub struct Filling {
+    pub fours: Vec<[u8; 4]>,
+    pub worst: u32,
+}
+
+/// A measurement. `s` is the sum of the six squared edge lengths, `d` the determinant, above 0; both without loss.
+#[derive(Clone, Copy, Debug, PartialEq)]
+pub enum Measured {
+    Flat { s: f64 },
+    Shape { d: f64, s: f64, shape: f64, millionths: u32 },
+}
+
+/// Whether a job can be searched, else 2 to 13.
+pub fn check(job: &Job) -> Result<(), Number> {
+    let Job { points, triangles, kept, table } = *job;
+    // SAFETY: each pointer and length are those of a slice, which the function only reads.
+    refused(unsafe {
+        c::cottontuff_check(
+            points.as_ptr(),
+            points.len(),
+            triangles.as_ptr(),
+            triangles.len(),
+            kept.as_ptr(),
+            kept.len(),
+            table.as_ptr(),
+            table.len(),
+        )
+    })
+}
+
+/// Judges a list of four point numbers for each tetrahedron; 2 to 13 where the job is refused.
+pub fn judge(job: &Job, list: &[u8]) -> Result<Judgement, Number> {
+    let Job { points, triangles, kept, table } = *job;
+    // SAFETY: each pointer and length are those of a slice, which the function only reads.
+    let verdict = unsafe {
+        c::cottontuff_judge(
+            points.as_ptr(),
+            points.len(),
+            triangles.as_ptr(),
+            triangles.len(),
+            kept.as_ptr(),
+            kept.len(),
+            table.as_ptr(),
+            table.len(),
+            list.as_ptr(),
+            list.len(),
+        )
+    };
+    refused(verdict.number)?;
+    Ok(if verdict.law == 0 { Judgement::Lawful(verdict.worst) } else { Judgement::Breaks(verdict.law) })
+}
+
+/// The lawful filling of greatest worst quality, the first among equals, as 4 · count bytes at the start of `answer`; the bytes behind them keep
+/// their values. 2 to 15 where there is none, and then `answer` is as it was.
+pub fn search_into(job: &Job, answer: &mut [u8]) -> Result<Found, Number> {
+    let Job { points, triangles, kept, table } = *job;
+    // SAFETY: each pointer and length are those of a slice; the function writes to `answer` alone, which no other slice overlaps.
+    let found = unsafe {
+        c::cottontuff_search(
+            points.as_ptr(),
+            points.len(),
+            triangles.as_ptr(),
+            triangles.len(),
+            kept.as_ptr(),
+            kept.len(),
+            table.as_ptr(),
+            table.len(),
+            answer.as_mut_ptr(),
+            answer.len(),
+        )
+    };
+    refused(found.number)?;
+    Ok(Found { count: found.count as usize, worst: found.worst })
+}
+
+/// The lawful filling of greatest worst quality, the first among equals; 2 to 13 or 15 where there is none.
+pub fn search(job: &Job) -> Result<Filling, Number> {
+    let mut answer = [0; ANSWER_BYTES];
+    let found = search_into(job, &mut answer)?;
+    let fours = answer.chunks_exact(4).take(found.count).map(|f| [f[0], f[1], f[2], f[3]]).collect();
+    Ok(Filling { fours, worst: found.worst })
+}
+
+/// Measures the tetrahedron of twelve coordinates, in whichever order of its corners; else 3 or 16.
+pub fn measure(coordinates: &[i32]) -> Result<Measured, Number> {
+    // SAFETY: the pointer and length are those of a slice, which the function only reads.
+    let m = unsafe { c::cottontuff_measure(coordinates.as_ptr(), coordinates.len()) };
+    refused(m.number)?;
+    Ok(if m.flat == 0 {
+        Measured::Shape { d: m.d, s: m.s, shape: m.shape, millionths: m.millionths }
+    } else {
+        Measured::Flat { s: m.s }
+    })
+}
+
+/// The printout of a job's text, at the start of `out`, and how many bytes it has; the bytes behind them keep their values.
+/// An `out` under 43,695 bytes is left as it is, and the answer is none.
+pub fn print_into(text: &[u8], out: &mut [u8]) -> Option<usize> {
+    // SAFETY: each pointer and length are those of a slice; the function writes to `out` alone, which `text` does not overlap.
+    let count = unsafe { c::cottontuff_print(text.as_ptr(), text.len(), out.as_mut_ptr(), out.len()) };
+    (count > 0).then_some(count)
+}
+
+/// The printout of a job's text: the filling, or a line such as `R,15` for number 15.
+pub fn print(text: &[u8]) -> Vec<u8> {
+    let mut out = vec![0; PRINTOUT_BYTES];
+    let count = print_into(text, &mut out).unwrap_or(0);
+    out.truncate(count);
+    out
+}
+
+/// The mesh bench: a mesh of 4 to 64 points and 1 to 256 tetrahedra, all measured, and perhaps an open cavity. A plain value, handed over and back.
+///
+/// The fields may be set to anything: a value that is no bench is treated as holding no mesh and no cavity, and `load` starts it anew.
+#[repr(C)]
+#[derive(Clone, Copy, Debug, PartialEq, Eq)]
+pub struct Bench {
+    /// x, y, z of each point.
+    pub points: [i32; 192],
+    /// Four point numbers for each tetrahedron, in the order in which they were given.
+    pub tets: [u8; 1024],
+    /// The measured quality of each tetrahedron, in millionths.
+    pub qualities: [u32; 256],
+    /// Not 0 at the tetrahedra of the open cavity.
+    pub in_cavity: [u8; 256],
+    /// Not 0 at the points of the open cavity.
+    pub in_points: [u8; 64],
+    pub point_count: u32,
+    pub tet_count: u32,
+    /// Successful replacements since the bench was fresh, stopping at 4,294,967,295.
+    pub count: u32,
+    /// Not 0 where a cavity is open.
+    pub open: u8,
+}
+
+/// Every operation changes the bench or gives a number and leaves it as it was.
+impl Bench {
+    /// A bench without a mesh, nothing replaced.
+    pub fn fresh() -> Bench {
+        // SAFETY: the function takes nothing and returns a value.
+        unsafe { c::cottontuff_bench_fresh() }
+    }
+
+    /// Takes a mesh in; the count of replacements stays. 32; 2, 3, 4, 17, 18, 19.
+    pub fn load(&mut self, points: &[i32], tets: &[u8]) -> Result<(), Number> {
+        // SAFETY: each pointer and length are those of a slice, which the function only reads.
+        self.take(unsafe { c::cottontuff_bench_load(*self, points.as_ptr(), points.len(), tets.as_ptr(), tets.len()) })
+    }
+
+    /// Opens a cavity with one tetrahedron. 31, 32; 20.
+    pub fn open_at(&mut self, tet: u32) -> Result<(), Number> {
+        // SAFETY: the function takes and returns values.
+        self.take(unsafe { c::cottontuff_bench_open(*self, tet) })
+    }
+
+    /// The cavity takes in one more point. 31, 33, 34, 35.
+    pub fn grow(&mut self) -> Result<(), Number> {
+        // SAFETY: the function takes and returns values.
+        self.take(unsafe { c::cottontuff_bench_grow(*self) })
+    }
+
+    /// Fills the cavity anew where that is better, and closes it. 31, 33, 36, 37, 38.
+    pub fn replace(&mut self) -> Result<(), Number> {
+        // SAFETY: the function takes and returns values.
+        self.take(unsafe { c::cottontuff_bench_replace(*self) })
+    }
+
+    /// Drops the cavity. 31, 33.
+    pub fn close(&mut self) -> Result<(), Number> {
+        // SAFETY: the function takes and returns values.
+        self.take(unsafe { c::cottontuff_bench_close(*self) })
+    }
+
+    /// x, y, z of each point that is held.
+    pub fn point_list(&self) -> &[i32] {
+        &self.points[..3 * self.point_count.min(64) as usize]
+    }
+
+    /// Four point numbers for each tetrahedron that is held.
+    pub fn tet_list(&self) -> &[u8] {
+        &self.tets[..4 * self.tet_count.min(256) as usize]
+    }
+
+    /// The quality of each tetrahedron that is held, in millionths.
+    pub fn quality_list(&self) -> &[u32] {
+        &self.qualities[..self.tet_count.min(256) as usize]
+    }
+
+    /// The numbers of the tetrahedra of the open cavity, ascending; none where no cavity is open.
+    pub fn cavity(&self) -> Option<Vec<u32>> {
+        (self.open != 0).then(|| numbers_of_marks(&self.in_cavity))
+    }
+
+    /// The numbers of the points of the open cavity, ascending; none where no cavity is open.
+    pub fn cavity_points(&self) -> Option<Vec<u32>> {
+        (self.open != 0).then(|| numbers_of_marks(&self.in_points))
+    }
+
+    fn take(&mut self, answer: c::BenchAnswer) -> Result<(), Number> {
+        refused(answer.number)?;
+        *self = answer.bench;
+        Ok(())
+    }
+}
+
+fn numbers_of_marks(marks: &[u8]) -> Vec<u32> {
+    (0..).zip(marks).filter(|(_, mark)| **mark != 0).map(|(number, _)| number).collect()
+}
+
+#[cfg(test)]
+mod tests {
+    use super::*;
+
+    const B_POINTS: [i32; 15] = [0, 0, 0, 6, 0, 0, 0, 6, 0, 1, 1, 5, 1, 1, -5];
+    const B_TRIANGLES: [u8; 18] = [0, 1, 3, 1, 2, 3, 2, 0, 3, 1, 0, 4, 2, 1, 4, 0, 2, 4];
+    const B_TABLE: [i32; 5] = [500000, 400000, 450000, 450000, 460000];
+    const TET_TRIANGLES: [u8; 12] = [0, 2, 1, 0, 1, 3, 0, 3, 2, 1, 2, 3];
+
+    fn b<'a>(kept: &'a [u8], table: &'a [i32]) -> Job<'a> {
+        Job { points: &B_POINTS, triangles: &B_TRIANGLES, kept, table }
+    }
+
+    fn filled(fours: &[[u8; 4]], worst: u32) -> Result<Filling, Number> {
+        Ok(Filling { fours: fours.to_vec(), worst })
+    }
+
+    #[test]
+    fn case_a_is_one_tetrahedron() {
+        let points = [0, 0, 0, 1, 0, 0, 0, 1, 0, 0, 0, 1];
+        let shape = 432.0 / 729.0;
+        assert_eq!(measure(&points), Ok(Measured::Shape { d: 1.0, s: 9.0, shape, millionths: 592592 }));
+        let job = Job { points: &points, triangles: &TET_TRIANGLES, kept: &[], table: &[592592] };
+        assert_eq!(search(&job), filled(&[[0, 1, 2, 3]], 592592));
+    }
+
+    #[test]
+    fn case_b_has_three() {
+        let three = filled(&[[0, 1, 3, 4], [0, 2, 3, 4], [1, 2, 3, 4]], 450000);
+        assert_eq!(check(&b(&[], &B_TABLE)), Ok(()));
+        assert_eq!(search(&b(&[], &B_TABLE)), three);
+        let mut table = B_TABLE;
+        table[1] = 500000;
+        assert_eq!(search(&b(&[3, 4], &table)), three);
+        assert_eq!(search(&b(&[4, 3, 3, 4], &table)), three);
+    }
+
+    #[test]
+    fn case_b_has_two_where_they_are_as_good_or_better() {
+        let two = [[0, 1, 2, 3], [0, 1, 2, 4]];
+        let mut table = B_TABLE;
+        table[2] = 400000;
+        assert_eq!(search(&b(&[], &table)), filled(&two, 400000));
+        table = B_TABLE;
+        table[1] = 500000;
+        assert_eq!(search(&b(&[], &table)), filled(&two, 500000));
+    }
+
+    #[test]
+    fn case_b_barred_and_unmeasured() {
+        let mut table = B_TABLE;
+        table[1] = 0;
+        table[2] = 0;
+        assert_eq!(search(&b(&[], &table)), Err(Number::NO_FILLING));
+        table = B_TABLE;
+        table[0] = -1;
+        assert_eq!(check(&b(&[], &table)), Err(Number::UNMEASURED));
+        assert_eq!(search(&b(&[], &table)), Err(Number::UNMEASURED));
+        assert_eq!(judge(&b(&[], &table), &[]), Err(Number::UNMEASURED));
+    }
+
+    #[test]
+    fn an_inner_point_is_met_by_four() {
+        let points = [0, 0, 0, 4, 0, 0, 0, 4, 0, 0, 0, 4, 1, 1, 1];
+        let job = Job { points: &points, triangles: &TET_TRIANGLES, kept: &[], table: &[1; 5] };
+        assert_eq!(search(&job), filled(&[[0, 1, 2, 4], [0, 1, 3, 4], [0, 2, 3, 4], [1, 2, 3, 4]], 1));
+        assert_eq!(judge(&job, &[0, 1, 2, 3]), Ok(Judgement::Breaks(3)));
+    }
+
+    #[test]
+    fn the_judge_names_the_lowest_law() {
+        let job = b(&[], &B_TABLE);
+        assert_eq!(judge(&job, &[0, 1, 2, 3, 0, 1, 2, 4]), Ok(Judgement::Lawful(400000)));
+        assert_eq!(judge(&job, &[0, 1, 2, 3]), Ok(Judgement::Breaks(4)));
+        assert_eq!(judge(&job, &[]), Ok(Judgement::Breaks(4)));
+        assert_eq!(judge(&job, &[0, 1, 2]), Ok(Judgement::Breaks(1)));
+        assert_eq!(judge(&b(&[3, 4], &B_TABLE), &[0, 1, 2, 3, 0, 1, 2, 4]), Ok(Judgement::Breaks(7)));
+    }
+
+    // Sixteen points on a curve; the boundary is that of the first four.
+    fn on_a_curve(count: i32) -> Vec<i32> {
+        (0..count).flat_map(|i| [i, i * i, i * i * i]).collect()
+    }
+
+    #[test]
+    fn limits_of_points_and_coordinates() {
+        let table = [1; 1820];
+        let points = on_a_curve(16);
+        let job = Job { points: &points, triangles: &TET_TRIANGLES, kept: &[], table: &table };
+        assert_eq!(check(&job), Ok(()));
+        let points = on_a_curve(17);
+        assert_eq!(check(&Job { points: &points, ..job }), Err(Number::POINT_COUNT));
+        let mut points = B_POINTS;
+        points[14] = -10000;
+        assert_eq!(check(&Job { points: &points, ..b(&[], &B_TABLE) }), Ok(()));
+        points[14] = -10001;
+        assert_eq!(check(&Job { points: &points, ..b(&[], &B_TABLE) }), Err(Number::FAR_COORDINATE));
+    }
+
+    #[test]
+    fn empty_lists_are_refused() {
+        let job = Job { points: &[], triangles: &[], kept: &[], table: &[] };
+        assert_eq!(check(&job), Err(Number::POINT_COUNT));
+        assert_eq!(judge(&job, &[]), Err(Number::POINT_COUNT));
+        assert_eq!(search(&job), Err(Number::POINT_COUNT));
+        assert_eq!(search_into(&job, &mut []), Err(Number::POINT_COUNT));
+        assert_eq!(check(&Job { triangles: &[], ..b(&[], &B_TABLE) }), Err(Number::TRIANGLE_COUNT));
+        assert_eq!(check(&b(&[], &[])), Err(Number::TABLE_LENGTH));
+    }
+
+    #[test]
+    fn a_short_answer_buffer_is_unchanged() {
+        let job = b(&[], &B_TABLE);
+        let mut short = [0xa5; ANSWER_BYTES - 1];
+        assert_eq!(search_into(&job, &mut short), Err(Number::SHORT_BUFFER));
+        assert_eq!(short, [0xa5; ANSWER_BYTES - 1]);
+        let mut enough = [0xa5; ANSWER_BYTES];
+        assert_eq!(search_into(&job, &mut enough), Ok(Found { count: 3, worst: 450000 }));
+        assert_eq!(enough[..12], [0, 1, 3, 4, 0, 2, 3, 4, 1, 2, 3, 4]);
+        assert!(enough[12..].iter().all(|byte| *byte == 0xa5));
+    }
+
+    #[test]
+    fn measuring_refuses_and_knows_flat() {
+        assert_eq!(measure(&[]), Err(Number::NOT_TWELVE));
+        assert_eq!(measure(&[0; 13]), Err(Number::NOT_TWELVE));
+        assert_eq!(measure(&[10001; 13]), Err(Number::FAR_COORDINATE));
+        assert_eq!(measure(&[i32::MIN; 12]), Err(Number::FAR_COORDINATE));
+        assert_eq!(measure(&[0, 0, 0, 1, 0, 0, 0, 1, 0, 1, 1, 0]), Ok(Measured::Flat { s: 8.0 }));
+    }
+
+    const B_TEXT: &[u8] =
+        b"P,0,0,0\nP,6,0,0\nP,0,6,0\nP,1,1,5\nP,1,1,-5\nT,0,1,3\nT,1,2,3\nT,2,0,3\nT,1,0,4\nT,2,1,4\nT,0,2,4\n\
+        Q,0,1,2,3,500000\nQ,0,1,2,4,400000\nQ,0,1,3,4,450000\nQ,0,2,3,4,450000\nQ,1,2,3,4,460000\n";
+
+    #[test]
+    fn a_text_has_a_printout() {
+        let printout = b"F,3,450000\nH,0,1,3,4,450000,2\nH,0,2,3,4,450000,2\nH,1,2,3,4,460000,2\n";
+        assert_eq!(print(B_TEXT), printout);
+        assert_eq!(print(b""), b"R,2\n");
+        assert_eq!(print(b"P,0,0\n"), b"R,1\n");
+        assert_eq!(print(&[b'\n'; 65537]), b"R,1\n");
+        let mut short = [0xa5; PRINTOUT_BYTES - 1];
+        assert_eq!(print_into(B_TEXT, &mut short), None);
+        assert_eq!(short, [0xa5; PRINTOUT_BYTES - 1]);
+        let mut enough = [0xa5; PRINTOUT_BYTES];
+        assert_eq!(print_into(B_TEXT, &mut enough), Some(printout.len()));
+        assert!(enough[printout.len()..].iter().all(|byte| *byte == 0xa5));
+    }
+
+    #[test]
+    fn a_bench_replaces_two_by_three() {
+        let mut bench = Bench::fresh();
+        let points = [12, 0, 0, 0, 12, 0, 0, 0, 12, 1, 1, 1, 7, 7, 7];
+        assert_eq!(bench.grow(), Err(Number::NO_MESH));
+        assert_eq!(bench.load(&points, &[0, 1, 2]), Err(Number::TET_COUNT));
+        assert_eq!(bench, Bench::fresh());
+        assert_eq!(bench.load(&points, &[0, 1, 2, 3, 2, 1, 0, 4]), Ok(()));
+        assert_eq!(bench.quality_list(), [387083, 387083]);
+        assert_eq!(bench.open_at(2), Err(Number::NO_SUCH_TET));
+        assert_eq!(bench.open_at(0), Ok(()));
+        assert_eq!((bench.cavity(), bench.cavity_points()), (Some(vec![0]), Some(vec![0, 1, 2, 3])));
+        assert_eq!(bench.replace(), Err(Number::NOT_BETTER));
+        assert_eq!(bench.grow(), Ok(()));
+        assert_eq!(bench.grow(), Err(Number::NOTHING_AROUND));
+        assert_eq!(bench.replace(), Ok(()));
+        assert_eq!(bench.point_list(), points);
+        assert_eq!(bench.tet_list(), [0, 1, 3, 4, 0, 2, 3, 4, 1, 2, 3, 4]);
+        assert_eq!(bench.quality_list(), [460545; 3]);
+        assert_eq!((bench.count, bench.cavity()), (1, None));
+        assert_eq!(bench.close(), Err(Number::NO_CAVITY));
+    }
+
+    #[test]
+    fn a_spoiled_bench_holds_no_mesh() {
+        let mut bench = Bench::fresh();
+        bench.load(&[0, 0, 0, 6, 0, 0, 0, 6, 0, 0, 0, 6], &[0, 1, 2, 3]).unwrap();
+        bench.tet_count = u32::MAX;
+        let spoiled = bench;
+        assert_eq!(bench.open_at(0), Err(Number::NO_MESH));
+        assert_eq!(bench, spoiled);
+        assert_eq!((bench.tet_list().len(), bench.quality_list().len()), (1024, 256));
+    }
+
+    #[test]
+    fn numbers_have_the_papers_words() {
+        assert_eq!(Number::NO_FILLING.to_string(), "15: no lawful filling exists");
+        assert_eq!(Number(99).to_string(), "99");
+        let all: Vec<u32> = Number::ALL.iter().map(|number| number.0).collect();
+        assert_eq!(all, (1..=20).chain(31..=38).collect::<Vec<u32>>());
+    }
+}

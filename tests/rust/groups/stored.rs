@@ -1,0 +1,112 @@
+//! Stored answers, where a folder of them is given: NAME.txt with NAME.out, judge/cases.txt, measure/cases.txt. Library and reference both
+//! answer them, the reference where it ends soon.
+use super::{Group, Part};
+use crate::reference::job;
+use crate::reference::measure::{measure, Measurement};
+use crate::reference::text::{print, read};
+use crate::tally::Tally;
+use cottontuff::{Job, Judgement, Measured};
+use std::fs;
+use std::path::{Path, PathBuf};
+
+pub const GROUP: Group = Group { name: "stored", run, wanted };
+
+fn wanted(part: &Part) -> (Vec<String>, u64) {
+    (if part.folders.is_empty() { Vec::new() } else { vec!["printout".to_string()] }, 1)
+}
+
+const STEPS: u64 = 1_000;
+
+/// The files below a folder, in the order of their names.
+pub fn files(folder: &Path) -> Vec<PathBuf> {
+    let mut entries: Vec<PathBuf> = fs::read_dir(folder).into_iter().flatten().flatten().map(|e| e.path()).collect();
+    entries.sort();
+    entries.into_iter().flat_map(|path| if path.is_dir() { files(&path) } else { vec![path] }).collect()
+}
+
+fn printouts(tally: &mut Tally, part: &Part, folder: &Path) {
+    let jobs: Vec<PathBuf> = files(folder).into_iter().filter(|p| p.extension().is_some_and(|e| e == "txt")).collect();
+    for path in jobs.iter().skip(part.number as usize).step_by(part.of as usize) {
+        let (Ok(text), Ok(expected)) = (fs::read(path), fs::read(path.with_extension("out"))) else { continue };
+        let told = || path.display().to_string();
+        tally.compare("printout".to_string(), &expected, &cottontuff::print(&text), told);
+        match print(&text, STEPS) {
+            Some(printout) => tally.compare("printout, listed".to_string(), &expected, &printout.into_bytes(), told),
+            None => tally.count("given up"),
+        }
+    }
+}
+
+/// The fields of each line of a file of cases.
+fn cases(path: PathBuf) -> Vec<Vec<String>> {
+    let text = fs::read_to_string(path).unwrap_or_default();
+    text.lines().map(|line| line.split(';').map(String::from).collect()).collect()
+}
+
+/// The numbers of a list parted by commas; what is none is passed over.
+pub fn decimals<T: std::str::FromStr>(list: &str) -> Vec<T> {
+    list.split(',').filter_map(|n| n.parse().ok()).collect()
+}
+
+fn judge_cases(tally: &mut Tally, folder: &Path) {
+    for case in cases(folder.join("judge/cases.txt")) {
+        let text = fs::read(folder.join("small").join(format!("{}.txt", case[0]))).unwrap_or_default();
+        let lists = read(&text).unwrap_or_default();
+        let bytes = |numbers: &[usize]| numbers.iter().map(|n| *n as u8).collect::<Vec<u8>>();
+        let (triangles, kept, list) = (bytes(&lists.triangles), bytes(&lists.kept), decimals::<u8>(&case[1]));
+        let job = Job { points: &lists.points, triangles: &triangles, kept: &kept, table: &lists.table };
+        let got = match cottontuff::judge(&job, &list) {
+            Ok(Judgement::Lawful(worst)) => format!("W,{worst}"),
+            Ok(Judgement::Breaks(law)) => format!("L,{law}"),
+            Err(number) => format!("R,{}", number.0),
+        };
+        tally.compare("judged".to_string(), &case[2], &got, || case.join(";"));
+        let numbers: Vec<usize> = list.iter().map(|b| usize::from(*b)).collect();
+        let listed = match job::check(&lists).map(|job| job.judge(&numbers)) {
+            Ok(Ok(worst)) => format!("W,{worst}"),
+            Ok(Err(law)) => format!("L,{law}"),
+            Err(number) => format!("R,{number}"),
+        };
+        tally.compare("judged by the reference".to_string(), &case[2], &listed, || case.join(";"));
+    }
+}
+
+fn told(m: Measurement) -> Vec<String> {
+    match m {
+        Measurement::Refused(number) => vec!["R".to_string(), number.to_string()],
+        Measurement::Flat { s } => vec!["FLAT".to_string(), s.to_string()],
+        Measurement::Shape { d, s, shape, millionths } => {
+            let bits = format!("{:016x}", shape.to_bits());
+            vec!["SHAPE".to_string(), d.to_string(), s.to_string(), bits, millionths.to_string()]
+        }
+    }
+}
+
+fn measure_cases(tally: &mut Tally, folder: &Path) {
+    for case in cases(folder.join("measure/cases.txt")) {
+        let list: Vec<i32> = decimals(&case[0]);
+        let mut expected: Vec<String> = case[1].split(',').map(String::from).collect();
+        if expected.len() == 6 {
+            expected.remove(3);
+        }
+        let got = match cottontuff::measure(&list) {
+            Err(number) => Measurement::Refused(number.0),
+            Ok(Measured::Flat { s }) => Measurement::Flat { s },
+            Ok(Measured::Shape { d, s, shape, millionths }) => Measurement::Shape { d, s, shape, millionths },
+        };
+        tally.compare("measured".to_string(), &expected, &told(got), || case.join(";"));
+        tally.compare("measured by the reference".to_string(), &expected, &told(measure(&list)), || case.join(";"));
+    }
+}
+
+fn run(part: &Part) -> Tally {
+    let mut tally = Tally::default();
+    for folder in &part.folders {
+        printouts(&mut tally, part, folder);
+        if part.number == 0 {
+            judge_cases(&mut tally, folder);
+            measure_cases(&mut tally, folder);
+        }
+    }
+    tally
+}
