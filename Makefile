@@ -15,7 +15,8 @@ $(library): FORCE
 target/bin/cavity: FORCE
 	$(RT) check cavity >/dev/null
 
-target/cottontuff.pc: Makefile
+# With another PREFIX its text is another.
+target/cottontuff.pc: FORCE
 	mkdir -p target
 	printf '%s\n' 'prefix=$(PREFIX)' 'Name: cottontuff' 'Description: proved cavity kernel' 'Version: 1.0.0' \
 		'Cflags: -I$${prefix}/include' 'Libs: -L$${prefix}/lib -lcottontuff' >$@
