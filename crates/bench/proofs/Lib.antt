@@ -10,3 +10,4 @@ pub mod GrowAnswers
 pub mod GrowDone
 pub mod LoadAnswers
 pub mod ReplaceAnswers
+pub mod Runs

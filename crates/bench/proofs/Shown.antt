@@ -128,7 +128,7 @@ replace-shown s d k = go (held (shown s)) k
     go mesh e = subst (λ (x : Done). Right s (laid-tets s) x) (sym e) refl
     go (opened c) (choice, best, e) = subst (λ (x : Done). Right s (laid-tets s) x) (sym e) (by c choice)
 
-answer-number : (n : ℕ) (s t : Bench) → answer n s t .number ≡ n
+pub answer-number : (n : ℕ) (s t : Bench) → answer n s t .number ≡ n
 unfolding answer
 answer-number zero s t = refl
 answer-number (suc n) s t = refl
@@ -144,5 +144,4 @@ replaces-shown s r (d, k, e) =
 -- THE STRUCT SHOWS THE BENCH.
 pub shown-right : Shown-right
 unfolding Shown-right
-shown-right =
-    (λ s cs ts f. load-shown s cs ts, λ s t f. open-shown s t, λ s f. grow-shown s, λ s f. close-shown s, λ s r f k. replaces-shown s r k)
+shown-right = (load-shown, open-shown, grow-shown, close-shown, replaces-shown)

@@ -2,7 +2,6 @@
 -- Slots behind the counts show nothing. Load zeroes them; replace zeroes those of the tetrahedra and qualities; the other operations leave them as they were.
 -- Assumes nothing: these are definitions.
 use mathlib.Core.Path.{_≡_}
-use mathlib.Core.Bool.{cond}
 use mathlib.Core.List.{List, []}
 use mathlib.Core.Option.{Option, none, some}
 use Prim.Native.Nat.{ℕ, zero, suc, _*_, _/_}
@@ -108,7 +107,7 @@ closed s = let d = B.close (shown s) in answer (d .number) s (laid-cavity s (d .
 unfoldable pub Replaces : Bench → Answer → Type 0
 Replaces s r = (d : B.Done) × B.Replaced (shown s) d × (r ≡ answer (d .number) s (laid-tets s (d .bench)))
 
--- ---- what the struct shows afterwards is the bench afterwards, for arrays of their lengths. Proved in proofs/Shown.
+-- ---- what the arrays of the struct have by their types
 pub record Fits (s : Bench) : Type 0 where
   pub points : length (s .points) ≡ 192
   pub tets : length (s .tets) ≡ 1024
@@ -116,10 +115,11 @@ pub record Fits (s : Bench) : Type 0 where
   pub in-cavity : length (s .«in_cavity») ≡ 256
   pub in-points : length (s .«in_points») ≡ 64
 
+-- ---- what the struct shows afterwards is the bench afterwards. Proved in proofs/Shown.
 unfoldable pub Shown-right : Type 0
 Shown-right =
-    ((s : Bench) (cs : List ℤ) (ts : List ℕ) → Fits s → shown (loaded s cs ts .bench) ≡ B.load (shown s) cs ts .bench)
-    × ((s : Bench) (t : ℕ) → Fits s → shown (opened-at s t .bench) ≡ B.open-at (shown s) t .bench)
-    × ((s : Bench) → Fits s → shown (grown s .bench) ≡ B.grow (shown s) .bench)
-    × ((s : Bench) → Fits s → shown (closed s .bench) ≡ B.close (shown s) .bench)
-    × ((s : Bench) (r : Answer) → Fits s → Replaces s r → B.Replaced (shown s) (record { number = r .number; bench = shown (r .bench) }))
+    ((s : Bench) (cs : List ℤ) (ts : List ℕ) → shown (loaded s cs ts .bench) ≡ B.load (shown s) cs ts .bench)
+    × ((s : Bench) (t : ℕ) → shown (opened-at s t .bench) ≡ B.open-at (shown s) t .bench)
+    × ((s : Bench) → shown (grown s .bench) ≡ B.grow (shown s) .bench)
+    × ((s : Bench) → shown (closed s .bench) ≡ B.close (shown s) .bench)
+    × ((s : Bench) (r : Answer) → Replaces s r → B.Replaced (shown s) (record { number = r .number; bench = shown (r .bench) }))

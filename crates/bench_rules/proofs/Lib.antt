@@ -32,3 +32,4 @@ pub mod NumberedTriangles
 pub mod MeshVolume
 pub mod VolumeKept
 pub mod History
+pub mod Raised

@@ -3,14 +3,15 @@
 use mathlib.Core.Path.{_≡_}
 use mathlib.Core.Bool.{cond}
 use mathlib.Core.List.{List, [], _∷_}
-use Prim.Native.Nat.{ℕ, _+_, min}
+use Prim.Native.Nat.{ℕ, _+_, _<_, min}
 use lib.Dec.{eqb}
 use lib.IntN.{ℤ}
 use Rattle.geometry.specs.Space.{points-in}
 use Rattle.geometry.specs.declared.tetrahedron.Four.{Four}
 use Rattle.geometry.specs.Measure.{D-of}
+use Rattle.laws.specs.Laws.{Best, worst}
 use Rattle.laws.specs.Check.{job-refusal}
-use Rattle.bench_rules.specs.Bench.{Bench, Cavity, Done, no-mesh, opened, held, fresh, load, open-at, grow, close, Replaced, mesh-fours, top-count, coordinates, renumbered, cavity-triangles, cavity-table}
+use Rattle.bench_rules.specs.Bench.{Bench, Cavity, Done, no-mesh, opened, held, fresh, load, open-at, grow, close, Replaced, mesh-fours, top-count, coordinates, renumbered, cavity-triangles, cavity-table, cavity-job, cavity-worst, new-tets}
 
 -- ---- one operation, for every bench and input
 pub data Op : Type 0 where
@@ -60,6 +61,16 @@ mesh-D b = sum-of-D (b .points) (mesh-fours (b .tets))
 
 unfoldable pub Volume-kept : Type 0
 Volume-kept = (b : Bench) (r : Done) → Replaced b r → mesh-D (r .bench) ≡ mesh-D b
+
+-- ---- a successful replacement: the rest of the list and then the best filling of the cavity, whose worst quality is above that of C. Proved in proofs/Raised.
+pub record Raised (b : Bench) (c : Cavity) (after : Bench) : Type 0 where
+  pub filling : List Four
+  pub best : Best (cavity-job b c) filling
+  pub rises : cavity-worst b c < worst (cavity-job b c) filling
+  pub mesh : mesh-fours (after .tets) ≡ new-tets b c filling
+
+unfoldable pub Worst-rises : Type 0
+Worst-rises = (b : Bench) (c : Cavity) (r : Done) → held b ≡ opened c → Replaced b r → r .number ≡ 0 → Raised b c (r .bench)
 
 -- ---- a bench that an operation has made or changed holds a mesh. Proved in proofs/Validity.
 unfoldable pub Stays-good : Type 0
