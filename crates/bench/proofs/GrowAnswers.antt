@@ -13,14 +13,16 @@ use Rattle.bench_rules.specs.Marks.{marked, marks}
 use Rattle.bench_rules.specs.Sound.{marked-cavity, Growing}
 use Rattle.bench_rules.proofs.PickedNumbers.{Among, from-within, picked-so}
 use Rattle.bench_rules.proofs.Joining.{near}
-use Rattle.bench.specs.declared.bench.Bench.{Bench}
 use Rattle.mesh.specs.State.{state-of}
+use Rattle.bench_rules.proofs.Marked.{marks-within}
+use Rattle.bench_rules.proofs.MarksRead.{marks-read, marks-length}
+use Rattle.bench_rules.proofs.MeshFours.{mesh-fours-length}
+use Rattle.bench.specs.declared.bench.Bench.{Bench}
 use Rattle.bench.specs.Parts.{Has-around}
 use Rattle.bench.specs.Store.{shown, answer, laid-cavity, grown}
-use Rattle.bench.proofs.MarkedNumbers.{marks-read, marks-long, marks-within}
 use Rattle.bench.proofs.HeldValue.{shown-tet-count}
 use Rattle.bench.proofs.HeldMesh.{Held-open, tets-long, qualities-long, qualities-small}
-use Rattle.bench.proofs.LaidOut.{few-fours, mesh-fours-count}
+use Rattle.bench.proofs.LaidOut.{few-fours}
 use Rattle.bench.proofs.Answers.{with-number}
 
 module _ (s : Bench) where
@@ -78,7 +80,7 @@ module _ (s : Bench) where
         let k = picked-so (λ i. not (member i is) && touches fs (nth fs i) is) (from (length fs) 0) (subst (λ (l : List ℕ). Among x l) near-read a) in
         let w = from-within (length fs) 0 (k .1) in
         let u = w .1 in
-        let f = mesh-fours-count (shown s .tets) in let g = shown-tet-count s in omega arith
+        let f = mesh-fours-length (shown s .tets) in let g = shown-tet-count s in omega arith
 
     pub growing : length (s .«in_points») ≡ 64 → Growing (take (s .«tet_count» * 4) (s .tets)) (take (s .«tet_count») (s .qualities)) near (s .«in_points»)
     growing l =
@@ -89,7 +91,7 @@ module _ (s : Bench) where
           tets-few = omega arith;
           measured = omega arith;
           small = qualities-small s (o .mesh);
-          around-long = ap length e ∙ marks-long 256 near-by;
+          around-long = ap length e ∙ marks-length 256 near-by;
           around-within = marks-within (length (take (s .«tet_count» * 4) (s .tets)) / 4) near (λ x a. let v = near-below x a in omega arith);
           points-long = l;
         }

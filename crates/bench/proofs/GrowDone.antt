@@ -14,11 +14,11 @@ use Rattle.bench_rules.specs.Marks.{marked, marks}
 use Rattle.bench_rules.specs.Sound.{marked-cavity}
 use Rattle.bench_rules.proofs.TakenPoints.{getD-among}
 use Rattle.bench_rules.proofs.Joining.{near, present, joined}
-use Rattle.bench.specs.declared.bench.Bench.{Bench}
 use Rattle.growth.specs.Grow.{met-in, met-as, better, joins-in}
+use Rattle.bench_rules.proofs.MarksRead.{marks-read}
+use Rattle.bench.specs.declared.bench.Bench.{Bench}
 use Rattle.bench.specs.Parts.{remarked, Has-around}
 use Rattle.bench.specs.Store.{shown, answer, laid, laid-cavity, grown, open-byte, cavity-tets, cavity-points}
-use Rattle.bench.proofs.MarkedNumbers.{marks-read}
 use Rattle.bench.proofs.HeldValue.{shown-point-count}
 use Rattle.bench.proofs.HeldMesh.{Held-open}
 use Rattle.bench.proofs.LaidOut.{few-points}

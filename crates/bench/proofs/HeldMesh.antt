@@ -18,12 +18,13 @@ use Rattle.bench_rules.specs.Sound.{bench-of, marked-cavity, Marks-within, Corn
 use Rattle.bench_rules.proofs.GoodMesh.{Mesh, held-opened}
 use Rattle.bench_rules.proofs.GoodTets.{Sound, each-sound}
 use Rattle.bench_rules.proofs.GoodCavity.{Good-cavity, cavity-true, point-present, tet-inside}
-use Rattle.bench.specs.declared.bench.Bench.{Bench}
 use Rattle.mesh.specs.State.{state-of}
+use Rattle.bench_rules.proofs.Marked.{marks-within}
+use Rattle.bench_rules.proofs.MeshFours.{mesh-fours-length}
+use Rattle.bench.specs.declared.bench.Bench.{Bench}
 use Rattle.bench.specs.Store.{shown, Fits}
-use Rattle.bench.proofs.MarkedNumbers.{marks-within}
 use Rattle.bench.proofs.HeldValue.{Counts, mesh-counts, shown-is, shown-points, shown-tets, opened-marks}
-use Rattle.bench.proofs.LaidOut.{good-sizes, mesh-fours-count}
+use Rattle.bench.proofs.LaidOut.{good-sizes}
 
 -- ---- corners and qualities of a mesh
 fours-below : (ps : List V3) (n : ℕ) (ts : List ℕ) → length ts ≡ 4 * n → Each (Sound ps) (fours-in n ts) → (i : ℕ) → i < length ts → getD ts i 0 < length ps
@@ -111,7 +112,7 @@ module _ (s : Bench) (h : Held-mesh s) where
       let a = ap length (h .qualities-are) in
       let b = ap length (h .mesh .measured) in
       let c = length-map (mesh-fours (shown s .tets)) (four-quality (points-in (shown s .points))) in
-      let d = mesh-fours-count (shown s .tets) in let e = shown-tets s in omega arith
+      let d = mesh-fours-length (shown s .tets) in let e = shown-tets s in omega arith
 
 -- ---- a mesh and a cavity
 pub record Held-open (s : Bench) : Type 0 where
@@ -139,4 +140,4 @@ module _ (s : Bench) (o : Held-open s) where
       marks-within (length (take (s .«tet_count» * 4) (s .tets)) / 4) (s .«in_cavity») (λ x a.
       let w = tet-inside (shown s) (marked-cavity (s .«in_cavity») (s .«in_points»)) (o .cavity) x a in
       let l = w .1 in
-      let e = mesh-fours-count (shown s .tets) in let k = ap length (o .mesh .tets-are) in omega arith)
+      let e = mesh-fours-length (shown s .tets) in let k = ap length (o .mesh .tets-are) in omega arith)

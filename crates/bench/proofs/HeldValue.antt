@@ -17,10 +17,10 @@ use Rattle.bench_rules.specs.Bench.{Cavity, Held, no-mesh, mesh, opened, held, 
 use Rattle.bench_rules.specs.Marks.{entries}
 use Rattle.bench_rules.specs.Sound.{bench-of, cavity-by, marked-cavity}
 use Rattle.bench_rules.proofs.GoodMesh.{Mesh, held-true, is-held}
-use Rattle.bench.specs.declared.bench.Bench.{Bench}
 use Rattle.mesh.specs.State.{state-of}
+use Rattle.bench_rules.proofs.Entries.{entries-length, entries-within}
+use Rattle.bench.specs.declared.bench.Bench.{Bench}
 use Rattle.bench.specs.Store.{shown, Fits}
-use Rattle.bench.proofs.Entries.{entries-long, entries-within}
 
 -- ---- the counts of a mesh
 pub record Counts (s : Bench) : Type 0 where
@@ -29,11 +29,11 @@ pub record Counts (s : Bench) : Type 0 where
 
 pub shown-points : (s : Bench) → length (shown s .points) ≡ 3 * s .«point_count»
 unfolding shown
-shown-points s = entries-long (pos 0) (3 * s .«point_count») (s .points)
+shown-points s = entries-length (pos 0) (3 * s .«point_count») (s .points)
 
 pub shown-tets : (s : Bench) → length (shown s .tets) ≡ 4 * s .«tet_count»
 unfolding shown
-shown-tets s = entries-long 0 (4 * s .«tet_count») (s .tets)
+shown-tets s = entries-length 0 (4 * s .«tet_count») (s .tets)
 
 pub shown-point-count : (s : Bench) → length (shown s .points) / 3 ≡ s .«point_count»
 shown-point-count s = let e = shown-points s in omega arith

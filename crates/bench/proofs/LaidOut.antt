@@ -11,21 +11,17 @@ use lib.IntN.{ℤ, pos}
 use Rattle.geometry.specs.Space.{points-in}
 use Rattle.laws.proofs.Points.{points-count}
 use Rattle.laws.proofs.Tests.{and-true}
-use Rattle.search.proofs.Context.{fours-in-length}
 use Rattle.bench_rules.specs.Bench.{Cavity, with-cavity, mesh-fours}
 use Rattle.bench_rules.specs.Marks.{marked, marks, entries}
 use Rattle.bench_rules.specs.Sound.{bench-of, cavity-by, marked-cavity}
 use Rattle.bench_rules.proofs.GoodMesh.{Good, Mesh}
+use Rattle.bench_rules.proofs.Entries.{entries-back}
+use Rattle.bench_rules.proofs.MeshFours.{mesh-fours-length}
 use Rattle.bench.specs.declared.bench.Bench.{Bench}
 use Rattle.bench.specs.Store.{shown, laid, laid-cavity, laid-tets, open-byte, cavity-tets, cavity-points}
-use Rattle.bench.proofs.Entries.{entries-back}
 use Rattle.bench.proofs.HeldValue.{mesh-counts, shown-points, shown-tets}
 
 -- ---- sizes
-pub mesh-fours-count : (ts : List ℕ) → length (mesh-fours ts) ≡ length ts / 4
-unfolding mesh-fours
-mesh-fours-count ts = fours-in-length (length ts / 4) ts
-
 pub record Sizes (cs : List ℤ) (ts : List ℕ) : Type 0 where
   pub points-whole : length cs % 3 ≡ 0
   pub points-few : length cs ≤ 192
@@ -53,7 +49,7 @@ few-points s m = let e = shown-points s in let k = mesh-counts s m .points-few i
 pub few-fours : (s : Bench) → Mesh (shown s) → length (mesh-fours (shown s .tets)) ≤ 256
 few-fours s m =
     let e = shown-tets s in
-    let f = mesh-fours-count (shown s .tets) in let k = mesh-counts s m .tets-few in omega arith
+    let f = mesh-fours-length (shown s .tets) in let k = mesh-counts s m .tets-few in omega arith
 
 -- ---- what is laid out is shown
 points-back : (cs : List ℤ) → length cs % 3 ≡ 0 → length cs ≤ 192 → entries (3 * (length cs / 3)) (pos 0) (entries 192 (pos 0) cs) ≡ cs

@@ -1,5 +1,3 @@
-pub mod Entries
-pub mod MarkedNumbers
 pub mod HeldValue
 pub mod LaidOut
 pub mod Shown

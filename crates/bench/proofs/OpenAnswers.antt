@@ -10,13 +10,13 @@ use lib.Dec.{ltb}
 use lib.ListN.{length, take}
 use Rattle.bench_rules.specs.Bench.{Cavity, Done, Held, no-mesh, mesh, held, refused, done, with-cavity, mesh-fours, points-of, open-at, open-as}
 use Rattle.bench_rules.specs.Marks.{marks}
-use Rattle.bench.specs.declared.bench.Bench.{Bench}
 use Rattle.mesh.specs.State.{state-of}
+use Rattle.bench_rules.proofs.MeshFours.{mesh-fours-length}
+use Rattle.bench.specs.declared.bench.Bench.{Bench}
 use Rattle.bench.specs.Parts.{remarked}
 use Rattle.bench.specs.Store.{shown, answer, laid, laid-cavity, opened-at, open-byte, cavity-tets, cavity-points}
 use Rattle.bench.proofs.HeldValue.{opened-marks, shown-point-count, shown-tet-count}
 use Rattle.bench.proofs.HeldMesh.{Held-mesh}
-use Rattle.bench.proofs.LaidOut.{mesh-fours-count}
 use Rattle.bench.proofs.Answers.{with-number}
 
 module _ (s : Bench) (t : ℕ) where
@@ -44,7 +44,7 @@ module _ (s : Bench) (t : ℕ) where
   open-tested u e k = sym (ap (λ (v : Bool). answer (tested v .number) s (laid-cavity s (tested v .bench))) k) ∙ open-by mesh e
 
   tets-counted : length (mesh-fours (shown s .tets)) ≡ s .«tet_count»
-  tets-counted = mesh-fours-count (shown s .tets) ∙ shown-tet-count s
+  tets-counted = mesh-fours-length (shown s .tets) ∙ shown-tet-count s
 
   pub open-past : held (shown s) ≡ mesh → s .«tet_count» ≤ t → with-number 20 s ≡ opened-at s t
   unfolding tested refused answer

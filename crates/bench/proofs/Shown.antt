@@ -19,11 +19,12 @@ use Rattle.bench_rules.specs.Bench as B
 use Rattle.bench_rules.specs.Bench.{Cavity, Done, Held, no-mesh, mesh, opened, held, refused, done, with-cavity, spanned, load, load-as, load-mesh, mesh-refusal, mesh-qualities, mesh-fours, open-at, open-as, points-of, corner-of-any, grow, grow-as, grow-by, joins, around, pick, member, tets-in, corners-in, nth, close, close-as, Replaced, Replaced-as, replace-by, put-in, new-tets, cavity-worst, cavity-job, top-count}
 use Rattle.bench_rules.specs.Sound.{bench-of, cavity-by}
 use Rattle.bench_rules.proofs.GoodMesh.{good, Mesh, held-true, is-held}
+use Rattle.bench_rules.proofs.MeshFours.{mesh-fours-length}
+use Rattle.bench_rules.proofs.MarksRead.{marks-read, one-mark-read}
 use Rattle.bench.specs.declared.bench.Bench.{Bench}
 use Rattle.bench.specs.declared.bench.Answer.{Answer}
 use Rattle.bench.specs.Store.{shown, answer, laid, laid-cavity, laid-tets, loaded, opened-at, grown, closed, Replaces, open-byte, Shown-right}
-use Rattle.bench.proofs.LaidOut.{mesh-fours-count, good-sizes, few-points, few-fours, laid-shown, tets-shown, shown-cavity}
-use Rattle.bench.proofs.MarkedNumbers.{marks-read, one-mark-read}
+use Rattle.bench.proofs.LaidOut.{good-sizes, few-points, few-fours, laid-shown, tets-shown, shown-cavity}
 
 -- ---- after a refusal the value is as it came; else it is laid out anew
 abbrev Right : (s : Bench) → (lay : B.Bench → Bench) → Done → Type 0
@@ -41,7 +42,7 @@ load-shown s cs ts = go (held (shown s))
     by : (n : ℕ) → mesh-refusal cs ts ≡ n → Right s laid (load-mesh n (shown s) cs ts)
     by zero e =
         let f = length-map (mesh-fours ts) (four-quality (points-in cs)) in
-        let g = mesh-fours-count ts in
+        let g = mesh-fours-length ts in
         laid-shown cs ts (mesh-qualities cs ts) (shown s .count) (good-sizes cs ts (good cs ts e)) (f ∙ g)
     by (suc n) e = refl
 

@@ -16,7 +16,12 @@ pub mod CavityTriangles
 pub mod Accepted
 pub mod GoodMesh
 pub mod PickedNumbers
+pub mod PickedInTurn
+pub mod Entries
+pub mod Marked
+pub mod MarksRead
 pub mod GoodTets
+pub mod MeshFours
 pub mod TakenPoints
 pub mod GoodCavity
 pub mod NewTets

@@ -14,10 +14,10 @@ use Rattle.bench_rules.specs.Bench.{mesh-fours, member, nth, pick, sum-of}
 use Rattle.bench_rules.specs.Marks.{marked}
 use Rattle.bench_rules.specs.Sound.{Marks-within}
 use Rattle.bench_rules.proofs.PickedNumbers.{picked-none}
+use Rattle.bench_rules.proofs.Marked.{marked-next-member, marked-done}
+use Rattle.bench_rules.proofs.MeshFours.{mesh-nth}
 use Rattle.growth.specs.Grow.{met-in, met-as, better, joins-in}
 use Rattle.growth.specs.declared.joining.Met.{Met}
-use Rattle.growth.proofs.Marked.{marked-more, marked-done}
-use Rattle.growth.proofs.MeshFours.{mesh-nth}
 
 -- ---- a point of P is met by none, another by those that have it as a corner
 pub met-inside : (fs : List Four) (ps near : List ℕ) (p : ℕ) → member p ps ≡ true → met-in fs ps near p ≡ []
@@ -47,7 +47,7 @@ module _ (ts qs am : List ℕ) (p : ℕ) where
     left-more : left i ≡ cond (member i (marked 0 am) && corner-of p (four-at ts i)) (i ∷ []) [] ++ left (i + 1)
     unfolding left pick
     left-more =
-        ap (pick (λ k. corner-of p (nth (mesh-fours ts) k))) (marked-more am i k) ∙ go (member i (marked 0 am))
+        ap (pick (λ k. corner-of p (nth (mesh-fours ts) k))) (marked-next-member am i k) ∙ go (member i (marked 0 am))
         ∙ ap (λ (f : Four). cond (member i (marked 0 am) && corner-of p f) (i ∷ []) [] ++ left (i + 1)) (mesh-nth ts i l)
       where
         go :

@@ -10,7 +10,7 @@ use Rattle.laws.specs.Laws.{corner-of}
 use Rattle.laws.specs.ListedFours.{four-at}
 use Rattle.bench_rules.specs.Bench.{mesh-fours, member, nth, corner-of-any, corners-in, touches, around, tets-in}
 use Rattle.bench_rules.specs.Marks.{marked, marks}
-use Rattle.growth.proofs.MeshFours.{mesh-length, mesh-nth}
+use Rattle.bench_rules.proofs.MeshFours.{mesh-fours-length, mesh-nth}
 use Rattle.growth.proofs.Marking.{Marks-to, marks-to-all}
 
 -- ---- the points with p among them
@@ -34,7 +34,7 @@ spanned-at pm ts i l h e = e ∙ ap (corners-in (marked 0 pm)) (h ∙ sym (mesh-
 
 pub spanned-all : (pm ts ms : List ℕ) (i : ℕ) → i ≡ length ts / 4 → Marks-to 256 (is-spanned pm ts) i ms → ms ≡ marks 256 (tets-in (marked 0 pm) (mesh-fours ts))
 unfolding tets-in
-spanned-all pm ts ms i e h = marks-to-all (length (mesh-fours ts)) (e ∙ sym (mesh-length ts)) h
+spanned-all pm ts ms i e h = marks-to-all (length (mesh-fours ts)) (e ∙ sym (mesh-fours-length ts)) h
 
 -- ---- A
 abbrev pub is-around : (tets in-cavity : List ℕ) → (i : ℕ) → Bool
@@ -42,4 +42,4 @@ is-around ts cm i = not (member i (marked 0 cm)) && touches (mesh-fours ts) (nth
 
 pub around-all : (ts cm ms : List ℕ) (i : ℕ) → i ≡ length ts / 4 → Marks-to 256 (is-around ts cm) i ms → ms ≡ marks 256 (around (mesh-fours ts) (marked 0 cm))
 unfolding around
-around-all ts cm ms i e h = marks-to-all (length (mesh-fours ts)) (e ∙ sym (mesh-length ts)) h
+around-all ts cm ms i e h = marks-to-all (length (mesh-fours ts)) (e ∙ sym (mesh-fours-length ts)) h

@@ -6,7 +6,7 @@ use Prim.Native.Nat.{ℕ, _+_, _/_, _≤_, _<_}
 use native.Mathlib.Omega.{arith}
 use borrow.Author.Tests.{ne-eqb}
 use lib.Dec.{leb, eqb}
-use lib.ListN.{length, drop, drop-of-length-le}
+use lib.ListN.{length, drop}
 use Rattle.geometry.specs.declared.tetrahedron.Four.{Four}
 use Rattle.laws.specs.Laws.{corner-of}
 use Rattle.laws.specs.ListedFours.{four-at}
@@ -14,8 +14,8 @@ use Rattle.laws.proofs.Scan.{Step}
 use Rattle.bench_rules.specs.Bench.{mesh-fours, member, nth, common, touches}
 use Rattle.bench_rules.specs.Marks.{marked}
 use Rattle.bench_rules.specs.Sound.{Marks-within}
-use Rattle.growth.proofs.Marked.{marked-more, marked-done}
-use Rattle.growth.proofs.MeshFours.{mesh-nth}
+use Rattle.bench_rules.proofs.Marked.{marked-next-member, marked-behind, marked-done}
+use Rattle.bench_rules.proofs.MeshFours.{mesh-nth}
 
 -- a corner counts at most one among the common points
 pub corner-counts-one : (p : ℕ) (f : Four) {r : ℕ} → r ≡ cond (corner-of p f) 1 0 → r ≤ 1
@@ -31,7 +31,7 @@ pub touch-step : (ts cm : List ℕ) (f : Four) (j : ℕ) → j < length ts / 4 �
     (touches (mesh-fours ts) f (marked (j + 1) (drop (j + 1) cm)))
 unfolding touches
 touch-step ts cm f j h l =
-    record { is = ap (touches (mesh-fours ts) f) (marked-more cm j l) ∙ go (member j (marked 0 cm)) ∙ ap (λ (g : Four). (member j (marked 0 cm) && leb 3 (common f g)) || later) (mesh-nth ts j h) }
+    record { is = ap (touches (mesh-fours ts) f) (marked-next-member cm j l) ∙ go (member j (marked 0 cm)) ∙ ap (λ (g : Four). (member j (marked 0 cm) && leb 3 (common f g)) || later) (mesh-nth ts j h) }
   where
     later : Bool
     later = touches (mesh-fours ts) f (marked (j + 1) (drop (j + 1) cm))
@@ -64,13 +64,12 @@ pub any-found : (ms : List ℕ) (i : ℕ) {r : Bool} → i < length ms → marke
     true ≡ not (eqb (length (marked 0 ms)) 0)
 any-found ms i l h e t =
     let s : marked 0 ms ≡ i ∷ marked (i + 1) (drop (i + 1) ms) =
-    h ∙ marked-more ms i l ∙ ap (λ (b : Bool). cond b (i ∷ []) [] ++ marked (i + 1) (drop (i + 1) ms)) (sym e ∙ t) in
+    h ∙ marked-next-member ms i l ∙ ap (λ (b : Bool). cond b (i ∷ []) [] ++ marked (i + 1) (drop (i + 1) ms)) (sym e ∙ t) in
     let n = ap length s in sym (ap not (ne-eqb (length (marked 0 ms)) 0 (λ z. omega arith)))
 
 pub any-missed : (ms : List ℕ) (i : ℕ) {r : Bool} → i < length ms → marked 0 ms ≡ marked i (drop i ms) → r ≡ member i (marked 0 ms) → r ≡ false →
     marked 0 ms ≡ marked (i + 1) (drop (i + 1) ms)
-any-missed ms i l h e t = h ∙ marked-more ms i l ∙ ap (λ (b : Bool). cond b (i ∷ []) [] ++ marked (i + 1) (drop (i + 1) ms)) (sym e ∙ t)
+any-missed ms i l h e t = h ∙ marked-next-member ms i l ∙ ap (λ (b : Bool). cond b (i ∷ []) [] ++ marked (i + 1) (drop (i + 1) ms)) (sym e ∙ t)
 
 pub any-end : (ms : List ℕ) (i : ℕ) → length ms ≤ i → marked 0 ms ≡ marked i (drop i ms) → false ≡ not (eqb (length (marked 0 ms)) 0)
-unfolding marked
-any-end ms i l h = sym (ap (λ (k : List ℕ). not (eqb (length k) 0)) (h ∙ ap (marked i) (drop-of-length-le ms l)))
+any-end ms i l h = sym (ap (λ (k : List ℕ). not (eqb (length k) 0)) (h ∙ marked-behind ms i l))

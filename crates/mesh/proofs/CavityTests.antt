@@ -1,13 +1,13 @@
 -- The tests of a cavity by marks: C and P compared with what they should be, number by number, and the tests in the order in which
 -- the functions make them. Assumes nothing.
-use mathlib.Core.Path.{_≡_, refl, sym, ap, _∙_, subst}
+use mathlib.Core.Path.{_≡_, sym, ap, _∙_, subst}
 use mathlib.Core.Bool.{Bool, true, false, _&&_, not, and-true, and-false}
 use mathlib.Core.List.{List}
 use Prim.Native.Nat.{ℕ, _+_, _-_, _/_, _≤_, _<_}
 use native.Mathlib.Omega.{arith}
-use borrow.Author.Tests.{eqb-true, not-true, not-false}
-use lib.Dec.{ltb, leb, eqb}
-use lib.ListN.{length, getD}
+use borrow.Author.Tests.{not-true, not-false}
+use lib.Dec.{ltb, leb}
+use lib.ListN.{length}
 use Rattle.geometry.specs.declared.tetrahedron.Four.{Four}
 use Rattle.laws.specs.Fours.{from}
 use Rattle.laws.proofs.Passes.{Test}
@@ -15,10 +15,10 @@ use Rattle.bench_rules.specs.Bench.{mesh-fours, member, same-numbers, nth, corn
 use Rattle.bench_rules.specs.Marks.{marked}
 use Rattle.bench_rules.specs.Sound.{Marks-within}
 use Rattle.bench_rules.proofs.Picked.{same-numbers-true}
-use Rattle.bench_rules.proofs.PickedNumbers.{Among, member-true, picked-so, from-within}
+use Rattle.bench_rules.proofs.PickedNumbers.{Among, picked-so, from-within}
+use Rattle.bench_rules.proofs.MeshFours.{mesh-fours-length}
+use Rattle.bench_rules.proofs.Marked.{marks-within}
 use Rattle.mesh.specs.State.{cavity-right, alike}
-use Rattle.mesh.proofs.MeshFours.{mesh-fours-length}
-use Rattle.mesh.proofs.Marked.{member-marked}
 use Rattle.mesh.proofs.MarksCompared.{all-alike, alike-start, alike-test, alike-end, marks-compared}
 
 -- ---- C compared
@@ -44,21 +44,13 @@ module _ (ts cm pm : List ℕ) where
   unfolding tets-left
   tets-end i h = alike-end (λ k. member k (marked 0 cm)) spanned (length cm) i h
 
-  pub marks-within : same-numbers (marked 0 cm) (tets-in (marked 0 pm) (mesh-fours ts)) ≡ true → Marks-within (length ts / 4) cm
-  unfolding Marks-within tets-in
-  marks-within h i l = go (eqb (getD cm i 0) 0) refl
-    where
-      below : Among i (marked 0 cm) → i < length (mesh-fours ts)
-      below a =
-          let b = subst (Among i) (same-numbers-true (marked 0 cm) (tets-in (marked 0 pm) (mesh-fours ts)) h) a in
-          let q = picked-so (λ k. corners-in (marked 0 pm) (nth (mesh-fours ts) k)) (from (length (mesh-fours ts)) 0) b in
-          let w = from-within (length (mesh-fours ts)) 0 (q .1) .1 in omega arith
-
-      go : (b : Bool) → eqb (getD cm i 0) 0 ≡ b → getD cm i 0 ≡ 0
-      go true e = eqb-true (getD cm i 0) 0 e
-      go false e =
-          let k = below (member-true i (marked 0 cm) (member-marked cm i ∙ ap not e)) in
-          let d = mesh-fours-length ts in absurd (omega arith)
+  pub tets-within : same-numbers (marked 0 cm) (tets-in (marked 0 pm) (mesh-fours ts)) ≡ true → Marks-within (length ts / 4) cm
+  unfolding tets-in
+  tets-within h =
+      marks-within (length ts / 4) cm (λ i a.
+      let b = subst (Among i) (same-numbers-true (marked 0 cm) (tets-in (marked 0 pm) (mesh-fours ts)) h) a in
+      let q = picked-so (λ k. corners-in (marked 0 pm) (nth (mesh-fours ts) k)) (from (length (mesh-fours ts)) 0) b in
+      let w = from-within (length (mesh-fours ts)) 0 (q .1) .1 in omega (arith, mesh-fours-length ts))
 
 -- ---- P compared
 module _ (n : ℕ) (ts cm pm : List ℕ) where

@@ -4,7 +4,7 @@ use mathlib.Core.Path.{_≡_, refl, sym, ap, _∙_, subst}
 use mathlib.Core.List.{List, [], _∷_, _++_, map, map-append, append-assoc, append-nil}
 use Prim.Native.Nat.{ℕ, _+_, _*_, _/_, _≤_, _<_}
 use native.Mathlib.Omega.{arith}
-use lib.ListN.{length, set, take, replicate, length-append, length-map}
+use lib.ListN.{length, set, take, replicate, length-map}
 use lib.IntN.{ℤ}
 use Rattle.geometry.specs.Space.{V3, points-in, turned}
 use Rattle.geometry.specs.declared.tetrahedron.Four.{Four}
@@ -16,9 +16,9 @@ use Rattle.bench_rules.specs.Bench.{mesh-fours}
 use Rattle.bench_rules.specs.Marks.{entries}
 use Rattle.bench_rules.specs.Sound.{Sound-mesh}
 use Rattle.bench_rules.proofs.GoodTets.{Sound, each-sound}
+use Rattle.bench_rules.proofs.Entries.{entries-none, entries-put-four, entries-front, array-length}
+use Rattle.bench_rules.proofs.MeshFours.{fours-in-length, fours-in-more, sound-at}
 use Rattle.mesh.specs.Codes.{tri-code, all-different}
-use Rattle.mesh.proofs.Entries.{entries-put, entries-none, entries-front, entries-long}
-use Rattle.mesh.proofs.MeshFours.{fours-in-length, fours-in-more, sound-at}
 use Rattle.mesh.proofs.TriCodes.{Proper, once-by-code}
 
 -- ---- proper triangles
@@ -73,19 +73,7 @@ module _ (ps : List V3) (ts : List ℕ) where
 
   pub codes-none : replicate 1024 0 ≡ entries 1024 0 (codes-in 0)
   unfolding codes-in fours-in all-faces
-  codes-none = sym (entries-none 0 1024)
-
-  put-four :
-      (xs : List ℕ) (k a b c d : ℕ) → length xs ≡ k → k + 3 < 1024 →
-      set (set (set (set (entries 1024 0 xs) k a) (k + 1) b) (k + 2) c) (k + 3) d ≡ entries 1024 0 (xs ++ (a ∷ b ∷ c ∷ d ∷ []))
-  put-four xs k a b c d e h =
-      ap (λ (l : List ℕ). set (set (set l (k + 1) b) (k + 2) c) (k + 3) d) (entries-put 0 1024 xs k a e (omega arith))
-      ∙ ap (λ (l : List ℕ). set (set l (k + 2) c) (k + 3) d) (entries-put 0 1024 (xs ++ (a ∷ [])) (k + 1) b (omega (arith, length-append xs (a ∷ []))) (omega arith))
-      ∙ ap (λ (l : List ℕ). set (set (entries 1024 0 l) (k + 2) c) (k + 3) d) (append-assoc xs (a ∷ []) (b ∷ []))
-      ∙ ap (λ (l : List ℕ). set l (k + 3) d) (entries-put 0 1024 (xs ++ (a ∷ b ∷ [])) (k + 2) c (omega (arith, length-append xs (a ∷ b ∷ []))) (omega arith))
-      ∙ ap (λ (l : List ℕ). set (entries 1024 0 l) (k + 3) d) (append-assoc xs (a ∷ b ∷ []) (c ∷ []))
-      ∙ entries-put 0 1024 (xs ++ (a ∷ b ∷ c ∷ [])) (k + 3) d (omega (arith, length-append xs (a ∷ b ∷ c ∷ []))) (omega arith)
-      ∙ ap (entries 1024 0) (append-assoc xs (a ∷ b ∷ c ∷ []) (d ∷ []))
+  codes-none = entries-none 0 1024
 
   numbers-of : (t : Four) {a b c d : ℕ} →
       a ≡ tri-code (tri (t .a) (t .c) (t .b)) → b ≡ tri-code (tri (t .a) (t .b) (t .d)) → c ≡ tri-code (tri (t .a) (t .d) (t .c)) →
@@ -100,7 +88,7 @@ module _ (ps : List V3) (ts : List ℕ) where
       set (set (set (set l (i * 4) a) (i * 4 + 1) b) (i * 4 + 2) c) (i * 4 + 3) d ≡ entries 1024 0 (codes-in (i + 1))
   codes-put i {t = t} {a} {b} {c} {d} h w p q ea eb ec ed =
       ap (λ (l : List ℕ). set (set (set (set l (i * 4) a) (i * 4 + 1) b) (i * 4 + 2) c) (i * 4 + 3) d) w
-      ∙ put-four (codes-in i) (i * 4) a b c d (codes-length i) (omega arith)
+      ∙ entries-put-four 0 1024 (codes-in i) (i * 4) a b c d (codes-length i) (omega arith)
       ∙ ap (λ (l : List ℕ). entries 1024 0 (codes-in i ++ l)) (numbers-of t ea eb ec ed ∙ ap (λ (x : Four). map tri-code (faces x)) (q ∙ ap (turned ps) p))
       ∙ ap (entries 1024 0) (sym (codes-more i))
 
@@ -121,8 +109,7 @@ codes-front cs ts m =
     let few = m .tets-few in
     let whole = m .whole in
     let k = codes-length (points-in cs) ts (length ts / 4) in
-    let d : length xs ≡ length ts = omega arith in
-    ap (λ (n : ℕ). take n (entries 1024 0 xs)) (sym d) ∙ entries-front 0 1024 xs (omega arith)
+    entries-front 0 1024 xs {k = length ts} (omega arith) (omega arith)
 
 pub once-by-numbers :
     (cs : List ℤ) (ts : List ℕ) {l : List ℕ} → Sound-mesh cs ts → l ≡ entries 1024 0 (map tri-code (all-faces (points-in cs) (mesh-fours ts))) →
@@ -131,4 +118,4 @@ unfolding mesh-fours codes-in
 once-by-numbers cs ts m e = once-different cs ts m ∙ sym (ap all-different (ap (take (length ts)) e ∙ codes-front cs ts m))
 
 pub numbers-long : (ps : List V3) (fs : List Four) {l : List ℕ} → l ≡ entries 1024 0 (map tri-code (all-faces ps fs)) → length l ≡ 1024
-numbers-long ps fs e = entries-long 0 1024 (map tri-code (all-faces ps fs)) e
+numbers-long ps fs e = array-length 0 1024 (map tri-code (all-faces ps fs)) e

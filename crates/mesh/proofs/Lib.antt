@@ -1,11 +1,8 @@
-pub mod Entries
-pub mod MeshFours
 pub mod TriCodes
 pub mod FaceNumbers
 pub mod Repeats
 pub mod Refusing
 pub mod Measured
-pub mod Marked
 pub mod MarksCompared
 pub mod MarkTests
 pub mod CavityTests

@@ -14,8 +14,8 @@ use Rattle.laws.proofs.Scan.{Step}
 use Rattle.bench_rules.specs.Bench.{mesh-fours, member, nth, corner-of-any, corners-in}
 use Rattle.bench_rules.specs.Marks.{marked}
 use Rattle.bench_rules.specs.Sound.{Marks-within}
-use Rattle.mesh.proofs.MeshFours.{mesh-fours-length, mesh-nth}
-use Rattle.mesh.proofs.Marked.{marked-more, marked-behind, marked-none, member-marked}
+use Rattle.bench_rules.proofs.MeshFours.{mesh-fours-length, mesh-nth}
+use Rattle.bench_rules.proofs.Marked.{marked-next, marked-behind, marked-done, member-marked}
 
 -- ---- one mark
 pub unmarked-behind : (ms : List ℕ) (i : ℕ) → length ms ≤ i → false ≡ member i (marked 0 ms)
@@ -33,12 +33,12 @@ module _ (ms : List ℕ) where
   pub left-marked : (i : ℕ) → i < length ms → (getD ms i 0 ≡ 0 → ⊥) → marked-left i ≡ marked-left (i + 1) + 1
   unfolding marked-left
   left-marked i h n =
-      ap length (marked-more ms i h ∙ ap (λ (b : Bool). cond b [] (i ∷ []) ++ marked (i + 1) (drop (i + 1) ms)) (ne-eqb (getD ms i 0) 0 n)) ∙ omega arith
+      ap length (marked-next ms i h ∙ ap (λ (b : Bool). cond b [] (i ∷ []) ++ marked (i + 1) (drop (i + 1) ms)) (ne-eqb (getD ms i 0) 0 n)) ∙ omega arith
 
   pub left-unmarked : (i : ℕ) → i < length ms → getD ms i 0 ≡ 0 → marked-left i ≡ marked-left (i + 1)
   unfolding marked-left
   left-unmarked i h e =
-      ap length (marked-more ms i h ∙ ap (λ (b : Bool). cond b [] (i ∷ []) ++ marked (i + 1) (drop (i + 1) ms)) (eq-eqb (getD ms i 0) 0 e))
+      ap length (marked-next ms i h ∙ ap (λ (b : Bool). cond b [] (i ∷ []) ++ marked (i + 1) (drop (i + 1) ms)) (eq-eqb (getD ms i 0) 0 e))
 
   pub left-at-end : (i : ℕ) → length ms ≤ i → marked-left i ≡ 0
   unfolding marked-left
@@ -56,7 +56,7 @@ module _ (ts cm : List ℕ) (p : ℕ) where
   pub corner-step : (i : ℕ) → i < length ts / 4 → i < length cm → Step (corner-left i) (not (eqb (getD cm i 0) 0) && corner-of p (four-at ts i)) (corner-left (i + 1))
   unfolding corner-left corner-of-any
   corner-step i h k =
-      record { is = ap (corner-of-any p (mesh-fours ts)) (marked-more cm i k) ∙ go (eqb (getD cm i 0) 0) ∙ ap by-corners (mesh-nth ts i h) }
+      record { is = ap (corner-of-any p (mesh-fours ts)) (marked-next cm i k) ∙ go (eqb (getD cm i 0) 0) ∙ ap by-corners (mesh-nth ts i h) }
     where
       by-corners : Four → Bool
       by-corners f = (not (eqb (getD cm i 0) 0) && corner-of p f) || corner-of-any p (mesh-fours ts) (marked (i + 1) (drop (i + 1) cm))
@@ -68,8 +68,8 @@ module _ (ts cm : List ℕ) (p : ℕ) where
       go false = refl
 
   pub corner-end : (i : ℕ) → length ts / 4 ≤ i → Marks-within (length ts / 4) cm → corner-left i ≡ false
-  unfolding corner-left corner-of-any Marks-within
-  corner-end i h w = ap (corner-of-any p (mesh-fours ts)) (marked-none cm i (λ k l. w k (omega arith)))
+  unfolding corner-left corner-of-any
+  corner-end i h w = ap (corner-of-any p (mesh-fours ts)) (marked-done cm (length ts / 4) i w h)
 
 pub corner-unmarked : (m : ℕ) (b : Bool) → m ≡ 0 → false ≡ (not (eqb m 0) && b)
 corner-unmarked m b e = sym (ap (λ (x : Bool). not x && b) (eq-eqb m 0 e))

@@ -13,8 +13,8 @@ use Rattle.laws.proofs.Passes.{Test}
 use Rattle.bench_rules.specs.Bench.{member, pick, same-numbers}
 use Rattle.bench_rules.specs.Marks.{marked}
 use Rattle.bench_rules.proofs.PickedNumbers.{picked-none, from-within}
+use Rattle.bench_rules.proofs.Marked.{member-marked, marked-picked}
 use Rattle.mesh.specs.State.{alike}
-use Rattle.mesh.proofs.Marked.{marked-picked}
 
 -- ---- two tests with one answer at `left` numbers from i on
 unfoldable pub all-alike : (s t : ℕ → Bool) → (left i : ℕ) → Bool
@@ -83,6 +83,6 @@ pub marks-compared :
     (ms : List ℕ) (t : ℕ → Bool) (n : ℕ) → n ≤ length ms →
     same-numbers (marked 0 ms) (pick t (from n 0)) ≡ all-alike (λ k. member k (marked 0 ms)) (λ k. ltb k n && t k) (length ms) 0
 marks-compared ms t n h =
-    ap (λ (l : List ℕ). same-numbers l (pick t (from n 0))) (marked-picked ms)
+    ap (λ (l : List ℕ). same-numbers l (pick t (from n 0))) (marked-picked (λ k. member k (marked 0 ms)) ms (member-marked ms))
     ∙ ap (same-numbers (pick (λ k. member k (marked 0 ms)) (from (length ms) 0))) (fewer-picked t n (length ms) 0 n h (omega arith))
     ∙ picks-compared (λ k. member k (marked 0 ms)) (λ k. ltb k n && t k) (length ms) 0

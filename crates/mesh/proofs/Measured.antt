@@ -21,8 +21,8 @@ use Rattle.laws.proofs.FourList.{fours-more, fours-done}
 use Rattle.bench_rules.specs.Bench.{mesh-fours, mesh-qualities, same-numbers}
 use Rattle.bench_rules.specs.Marks.{entries}
 use Rattle.bench_rules.proofs.Picked.{same-numbers-true}
-use Rattle.mesh.proofs.Entries.{entries-put, entries-none}
-use Rattle.mesh.proofs.MeshFours.{fours-in-length, fours-in-more, mesh-fours-length, mesh-start}
+use Rattle.bench_rules.proofs.Entries.{entries-put, entries-none}
+use Rattle.bench_rules.proofs.MeshFours.{fours-in-length, fours-in-more, mesh-fours-length, mesh-start}
 
 -- ---- one four
 quality-when : (ps : List V3) (f : Four) → millionths-of (measured-four ps f .answer) ≡ four-quality ps f
@@ -44,7 +44,7 @@ module _ (ps : List V3) (ts : List ℕ) where
 
   pub qualities-none : replicate 256 0 ≡ entries 256 0 (qualities-in 0)
   unfolding qualities-in fours-in
-  qualities-none = sym (entries-none 0 256)
+  qualities-none = entries-none 0 256
 
   pub qualities-put : (i v : ℕ) {q : List ℕ} → i < 256 → v ≡ four-quality ps (four-at ts i) → q ≡ entries 256 0 (qualities-in i) → set q i v ≡ entries 256 0 (qualities-in (i + 1))
   unfolding qualities-in

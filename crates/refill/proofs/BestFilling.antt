@@ -16,10 +16,10 @@ use Rattle.search.proofs.Answers.{searched-of}
 use Rattle.bench_rules.specs.Bench.{coordinates, renumbered, cavity-triangles, cavity-table, cavity-job}
 use Rattle.bench_rules.specs.Marks.{marked}
 use Rattle.bench_rules.specs.Sound.{Open-mesh, bench-of, marked-cavity}
+use Rattle.bench_rules.proofs.Entries.{In-array, array-read}
 use Rattle.refill.specs.Refill.{Answered, filled-as, Filled-best}
 use Rattle.refill.specs.declared.filling.Answer.{Answer}
 use Rattle.refill.specs.declared.filling.Filling.{Filling}
-use Rattle.refill.proofs.Entries.{In-array, array-read}
 use Rattle.refill.proofs.OpenCavity.{job-accepted}
 
 fours-in-front : (fs : List Four) (rest : List ℕ) → fours-in (length fs) (bytes fs ++ rest) ≡ fs

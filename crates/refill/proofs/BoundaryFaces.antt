@@ -14,8 +14,8 @@ use Rattle.laws.proofs.Scan.{Step}
 use Rattle.bench_rules.specs.Bench.{member, place-in, renumbered}
 use Rattle.bench_rules.specs.Marks.{entries}
 use Rattle.mesh.specs.Codes.{tri-code}
+use Rattle.bench_rules.proofs.Entries.{entries-none, entries-put-three}
 use Rattle.refill.specs.Faces.{open-face, open-faces, Listed}
-use Rattle.refill.proofs.Laid.{entries-empty, entries-put-three}
 
 -- ---- a number looked for from the front
 pub member-step : (x : ℕ) (cs : List ℕ) (i : ℕ) → i < length cs → Step (member x (drop i cs)) (eqb x (getD cs i 0)) (member x (drop (i + 1) cs))
@@ -44,7 +44,7 @@ put-bytes k x y z l = set (set (set l (k * 3) x) (k * 3 + 1) y) (k * 3 + 2) z
 
 pub listed-start : (P : List ℕ) → Listed P [] (replicate 3072 0) 0
 unfolding renumbered
-listed-start P = record { laid = entries-empty 3072 0; many = refl }
+listed-start P = record { laid = entries-none 0 3072; many = refl }
 
 listed-more :
     {P : List ℕ} {ts : List Tri} {triangle : List ℕ} {count : ℕ} → Listed P ts triangle count → count < 1024 → (t : Tri) →
@@ -57,7 +57,7 @@ listed-more {P} {ts} {triangle} {count} w h t =
     record {
       laid =
           ap (put-bytes count x y z) (w .laid)
-          ∙ entries-put-three 3072 0 (renumbered P ts) (count * 3) x y z (omega (arith, renumbered-length P ts, w .many)) (omega arith)
+          ∙ entries-put-three 0 3072 (renumbered P ts) (count * 3) x y z (omega (arith, renumbered-length P ts, w .many)) (omega arith)
           ∙ ap (entries 3072 0) (sym (renumbered-append P ts (t ∷ [])));
       many = ap (λ (n : ℕ). n + 1) (w .many) ∙ sym (length-append ts (t ∷ []));
     }

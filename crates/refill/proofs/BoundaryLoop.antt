@@ -1,26 +1,24 @@
 -- The loop over a cavity's tetrahedra that lists its unmatched faces: what holds after each, and at the end. Assumes nothing.
 use mathlib.Core.Path.{_≡_, sym, subst, ap, _∙_}
 use mathlib.Core.List.{List, _∷_, [], _++_, map, append-nil}
-use Prim.Native.Nat.{ℕ, _+_, _-_, _*_, _/_, _≤_, _<_}
+use Prim.Native.Nat.{ℕ, _+_, _*_, _/_, _≤_, _<_}
 use native.Mathlib.Omega.{arith}
 use native.Mathlib.Numerals.{add-one}
 use lib.ListN.{length, take, replicate, length-take, length-map}
-use lib.Seq.{take-suc, take-all, take-append-seam}
+use lib.Seq.{take-suc, take-all}
 use lib.IntN.{ℤ}
 use Rattle.geometry.specs.Space.{four, points-in, turned}
-use Rattle.geometry.specs.Range.{Present}
 use Rattle.geometry.specs.declared.tetrahedron.Four.{Four}
 use Rattle.laws.specs.Laws.{Tri, faces, all-faces}
 use Rattle.laws.specs.ListedFours.{Below, four-at}
 use Rattle.bench_rules.specs.Bench.{mesh-fours, nth, unmatched-in, renumbered}
 use Rattle.bench_rules.specs.Marks.{entries}
 use Rattle.bench_rules.specs.Sound.{Sound-mesh}
-use Rattle.bench_rules.proofs.GoodTets.{Sound, each-sound, each-nth}
-use Rattle.search.proofs.Context.{fours-in-length}
-use Rattle.search.proofs.CoverageByNumber.{nth-bytes}
+use Rattle.bench_rules.proofs.GoodTets.{each-sound}
 use Rattle.mesh.specs.Codes.{tri-code}
+use Rattle.bench_rules.proofs.Entries.{array-length, array-front}
+use Rattle.bench_rules.proofs.MeshFours.{mesh-fours-length, mesh-nth, sound-at}
 use Rattle.refill.specs.Faces.{open-faces, Listed}
-use Rattle.refill.proofs.Laid.{entries-split, entries-length}
 use Rattle.refill.proofs.BoundaryFaces.{listed-start, open-faces-append, open-faces-few}
 use Rattle.refill.proofs.OpenFaces.{all-faces-append, all-faces-length, turned-small, all-faces-proper, open-faces-unmatched}
 
@@ -29,23 +27,8 @@ unfoldable pub open-before : List ℤ → (tets codes : List ℕ) → (i : ℕ) 
 open-before cs ts codes i = open-faces codes (all-faces (points-in cs) (take i (mesh-fours ts)))
 
 module _ (cs : List ℤ) (ts : List ℕ) (m : Sound-mesh cs ts) where
-  count : length (mesh-fours ts) ≡ length ts / 4
-  unfolding mesh-fours
-  count = fours-in-length (length ts / 4) ts
-
-  four-is : (i : ℕ) → i < length ts / 4 → nth (mesh-fours ts) i ≡ four-at ts i
-  unfolding nth four mesh-fours
-  four-is i h = nth-bytes (length ts / 4) ts i h
-
-  sound-at : (i : ℕ) → i < length ts / 4 → Sound (points-in cs) (four-at ts i)
-  sound-at i h = subst (Sound (points-in cs)) (four-is i h) (each-nth (each-sound (points-in cs) (mesh-fours ts) (m .sound)) i (omega (arith, count)))
-
-  pub tet-present : (i : ℕ) → i < length ts / 4 → {f : Four} → f ≡ four-at ts i → Present cs f
-  tet-present i h e =
-      let s = sound-at i h in subst (Present cs) (sym e) (record { near = m .near; a = s .a-in; b = s .b-in; c = s .c-in; d = s .d-in })
-
   pub tet-small : (i : ℕ) → i < length ts / 4 → {f g : Four} → f ≡ four-at ts i → g ≡ turned (points-in cs) f → Below 256 g
-  tet-small i h e q = subst (Below 256) (sym (q ∙ ap (turned (points-in cs)) e)) (turned-small (points-in cs) (m .points-few) (four-at ts i) (sound-at i h))
+  tet-small i h e q = subst (Below 256) (sym (q ∙ ap (turned (points-in cs)) e)) (turned-small (points-in cs) (m .points-few) (four-at ts i) (sound-at cs ts m i h))
 
   pub boundary-start : (P codes : List ℕ) → Listed P (open-before cs ts codes 0) (replicate 3072 0) 0
   unfolding open-before open-faces all-faces
@@ -65,16 +48,16 @@ module _ (cs : List ℤ) (ts : List ℕ) (m : Sound-mesh cs ts) where
       let ps = points-in cs in
       let fs = mesh-fours ts in
       ap (λ (n : ℕ). open-faces codes (all-faces ps (take n fs))) (add-one i)
-      ∙ ap (λ (l : List Four). open-faces codes (all-faces ps l)) (take-suc fs i (four 0 0 0 0) (omega (arith, count)))
+      ∙ ap (λ (l : List Four). open-faces codes (all-faces ps l)) (take-suc fs i (four 0 0 0 0) (omega (arith, mesh-fours-length ts)))
       ∙ ap (open-faces codes) (all-faces-append ps (take i fs) (nth fs i ∷ []))
       ∙ open-faces-append codes (all-faces ps (take i fs)) (all-faces ps (nth fs i ∷ []))
       ∙ ap (λ (l : List Tri). open-faces codes (all-faces ps (take i fs)) ++ open-faces codes l)
-      (append-nil (faces (turned ps (nth fs i))) ∙ ap faces (ap (turned ps) (four-is i h ∙ sym e) ∙ sym q))
+      (append-nil (faces (turned ps (nth fs i))) ∙ ap faces (ap (turned ps) (mesh-nth ts i h ∙ sym e) ∙ sym q))
 
   open-all : (codes : List ℕ) (i : ℕ) → length ts / 4 ≤ i → open-before cs ts codes i ≡ open-faces codes (all-faces (points-in cs) (mesh-fours ts))
   unfolding open-before
   open-all codes i h =
-      ap (λ (l : List Four). open-faces codes (all-faces (points-in cs) l)) (take-all i (mesh-fours ts) (omega (arith, count)))
+      ap (λ (l : List Four). open-faces codes (all-faces (points-in cs) l)) (take-all i (mesh-fours ts) (omega (arith, mesh-fours-length ts)))
 
   pub boundary-more :
       {P : List ℕ} (codes : List ℕ) (i : ℕ) → i < length ts / 4 → {f g : Four} → f ≡ four-at ts i → g ≡ turned (points-in cs) f →
@@ -94,11 +77,11 @@ module _ (cs : List ℤ) (ts : List ℕ) (m : Sound-mesh cs ts) where
       let w = m .whole in
       let a = length-map (all-faces (points-in cs) (mesh-fours ts)) tri-code in
       let b = all-faces-length (points-in cs) (mesh-fours ts) in
-      let c = count in omega arith
+      let c = mesh-fours-length ts in omega arith
 
   pub codes-room : {code : List ℕ} → code ≡ entries 1024 0 (map tri-code (all-faces (points-in cs) (mesh-fours ts))) → length ts ≤ length code
   codes-room e =
-      let few = m .tets-few in omega (arith, ap length e, entries-length 1024 0 (map tri-code (all-faces (points-in cs) (mesh-fours ts))))
+      let few = m .tets-few in omega (arith, array-length 0 1024 (map tri-code (all-faces (points-in cs) (mesh-fours ts))) e)
 
   pub codes-front :
       {code : List ℕ} → code ≡ entries 1024 0 (map tri-code (all-faces (points-in cs) (mesh-fours ts))) →
@@ -107,8 +90,7 @@ module _ (cs : List ℤ) (ts : List ℕ) (m : Sound-mesh cs ts) where
       let xs = map tri-code (all-faces (points-in cs) (mesh-fours ts)) in
       let l = all-long in
       let few = m .tets-few in
-      let fill = replicate {A = ℕ} (1024 - length xs) 0 in
-      ap (take (length ts)) (e ∙ entries-split 1024 0 xs (omega arith)) ∙ ap (λ (n : ℕ). take n (xs ++ fill)) (sym l) ∙ take-append-seam xs fill
+      array-front 0 1024 xs e (sym l) (omega arith)
 
   pub listed-boundary :
       {P : List ℕ} {codes triangle : List ℕ} {count : ℕ} → codes ≡ map tri-code (all-faces (points-in cs) (mesh-fours ts)) →

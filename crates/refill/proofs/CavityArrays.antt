@@ -18,7 +18,7 @@ use Rattle.bench_rules.specs.Sound.{Sound-mesh, Open-mesh, bench-of, marked-cav
 use Rattle.bench_rules.proofs.CavityTable.{table-length}
 use Rattle.bench_rules.proofs.PlacedTriangles.{renumbered-length}
 use Rattle.bench_rules.proofs.ValidReplace.{mesh-fours-bytes}
-use Rattle.refill.proofs.Entries.{In-array, array-read}
+use Rattle.bench_rules.proofs.Entries.{In-array, array-read}
 use Rattle.refill.proofs.OpenCavity.{cavity-points-few, cavity-tets-few, inside-sound, inside-length, job-near, coordinates-long, job-points-few, boundary-most}
 
 module _ {cs : List ℤ} {ts qs cm pm : List ℕ} (o : Open-mesh cs ts qs cm pm) where

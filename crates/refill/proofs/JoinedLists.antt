@@ -1,6 +1,6 @@
 -- A filling's bytes with the mesh's numbers, written one after another, and one list written behind another. Assumes nothing.
 use mathlib.Core.Path.{_≡_, refl, sym, ap, _∙_}
-use mathlib.Core.List.{List, [], _∷_, _++_, map}
+use mathlib.Core.List.{List, [], _∷_, _++_, map, map-append, append-assoc, append-nil}
 use Prim.Native.Nat.{ℕ, zero, suc, _+_, _*_, _≤_, _<_}
 use native.Mathlib.Numerals.{add-one}
 use native.Mathlib.Omega.{arith}
@@ -10,21 +10,9 @@ use Rattle.geometry.specs.Space.{four}
 use Rattle.laws.specs.Laws.{bytes, fours-in}
 use Rattle.bench_rules.specs.Bench.{back}
 use Rattle.bench_rules.specs.Marks.{entries}
+use Rattle.bench_rules.proofs.Entries.{entries-none, entries-put, array-length}
 use Rattle.refill.specs.Refill.{tets-of, Laid-out}
 use Rattle.refill.specs.declared.gather.TetList.{TetList}
-use Rattle.refill.proofs.Entries.{entries-none, entries-next, array-length}
-
-append-assoc : (us vs ws : List ℕ) → (us ++ vs) ++ ws ≡ us ++ (vs ++ ws)
-append-assoc [] vs ws = refl
-append-assoc (u ∷ us) vs ws = ap (λ (l : List ℕ). u ∷ l) (append-assoc us vs ws)
-
-append-nil : (us : List ℕ) → us ++ [] ≡ us
-append-nil [] = refl
-append-nil (u ∷ us) = ap (λ (l : List ℕ). u ∷ l) (append-nil us)
-
-map-append : (g : ℕ → ℕ) (xs ys : List ℕ) → map g (xs ++ ys) ≡ map g xs ++ map g ys
-map-append g [] ys = refl
-map-append g (x ∷ xs) ys = ap (λ (l : List ℕ). g x ∷ l) (map-append g xs ys)
 
 -- ---- new numbers
 unfoldable pub numbered : (ps bs : List ℕ) → List ℕ
@@ -46,7 +34,7 @@ back-bytes ps (suc m) (a ∷ b ∷ c ∷ d ∷ bs) h =
 
 pub none-written : (ps bs : List ℕ) → replicate 1024 0 ≡ entries 1024 0 (numbered ps (take 0 bs))
 unfolding numbered
-none-written ps bs = sym (entries-none 0 1024)
+none-written ps bs = entries-none 0 1024
 
 pub all-written :
     (ps bs : List ℕ) (m : ℕ) {t : List ℕ} {i : ℕ} → m * 4 ≤ length bs → i ≡ m * 4 → t ≡ entries 1024 0 (numbered ps (take i bs)) →
@@ -63,7 +51,7 @@ number-written ps bs {t} {i} {v} h l e w =
     let n = length-map (take i bs) g in
     let k = length-take-le i bs (omega arith) in
     ap (λ (x : List ℕ). set x i v) e
-    ∙ (entries-next 0 (map g (take i bs)) v (omega arith) l
+    ∙ (entries-put 0 1024 (map g (take i bs)) i v (omega arith) l
     ∙ (ap (λ (x : ℕ). entries 1024 0 (map g (take i bs) ++ (x ∷ []))) w
     ∙ ap (entries 1024 0) (sym (map-append g (take i bs) (getD bs i 0 ∷ [])) ∙ ap (map g) (sym (take-suc bs i 0 h) ∙ ap (λ (x : ℕ). take x bs) (sym (add-one i))))))
 
@@ -85,7 +73,7 @@ byte-written xs ys {t} {i} {s} h k l e =
     let n = length-append xs (take i ys) in
     let m = length-take-le i ys (omega arith) in
     ap (λ (x : List ℕ). set x (s + i) (getD ys i 0)) e
-    ∙ (entries-next 0 (xs ++ take i ys) (getD ys i 0) (omega arith) l
+    ∙ (entries-put 0 1024 (xs ++ take i ys) (s + i) (getD ys i 0) (omega arith) l
     ∙ ap (entries 1024 0) (append-assoc xs (take i ys) (getD ys i 0 ∷ []) ∙ ap (λ (x : List ℕ). xs ++ x) (sym (take-suc ys i 0 h) ∙ ap (λ (x : ℕ). take x ys) (sym (add-one i)))))
 
 pub all-joined : (t u : TetList) {s : List ℕ} (i : ℕ) → i ≡ u .count * 4 → s ≡ entries 1024 0 (tets-of t ++ take i (u .tet)) → s ≡ entries 1024 0 (tets-of t ++ tets-of u)

@@ -1,4 +1,3 @@
-pub mod Laid
 pub mod Marked
 pub mod PickedTets
 pub mod PickedPoints
@@ -9,8 +8,6 @@ pub mod TableLoop
 pub mod BoundaryFaces
 pub mod OpenFaces
 pub mod BoundaryLoop
-pub mod Entries
-pub mod MarkedNumbers
 pub mod WorstInside
 pub mod JoinedLists
 pub mod TetLists

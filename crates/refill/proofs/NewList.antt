@@ -1,8 +1,8 @@
 -- The rest of the mesh's list, then the filling with the mesh's numbers: laid out in one array, it is the list of the mesh that results. Assumes nothing.
-use mathlib.Core.Path.{_≡_, refl, sym, subst, ap, _∙_}
-use mathlib.Core.Bool.{Bool, true, false, not, cond}
-use mathlib.Core.List.{List, [], _∷_, _++_, map}
-use Prim.Native.Nat.{ℕ, zero, suc, _+_, _/_, _≤_}
+use mathlib.Core.Path.{_≡_, sym, subst, ap, _∙_}
+use mathlib.Core.Bool.{not}
+use mathlib.Core.List.{List, _++_, map}
+use Prim.Native.Nat.{ℕ, _+_, _/_, _≤_}
 use native.Mathlib.Omega.{arith}
 use lib.ListN.{length, take, length-map}
 use lib.IntN.{ℤ}
@@ -14,25 +14,13 @@ use Rattle.bench_rules.specs.Bench.{mesh-fours, nth, parts, pick, member, back,
 use Rattle.bench_rules.specs.Marks.{marked, entries}
 use Rattle.bench_rules.specs.Sound.{Sound-mesh, Open-mesh, bench-of, marked-cavity}
 use Rattle.bench_rules.proofs.NewTets.{new-sound}
+use Rattle.bench_rules.proofs.PickedInTurn.{pick-few}
+use Rattle.bench_rules.proofs.MeshFours.{mesh-fours-length}
+use Rattle.bench_rules.proofs.Entries.{In-array, array-read}
 use Rattle.refill.specs.Refill.{tets-of}
 use Rattle.refill.specs.declared.gather.TetList.{TetList}
-use Rattle.refill.proofs.Entries.{In-array, array-read}
 use Rattle.refill.proofs.TetLists.{Holds, holds-list, holds-both}
-use Rattle.refill.proofs.OpenCavity.{mesh-fours-length, sound-list, open-bench, open-cavity, near, points-few, tets-few, its-mesh, its-cavity}
-
-from-length : (n i : ℕ) → length (from n i) ≡ n
-unfolding from
-from-length zero i = refl
-from-length (suc n) i = ap suc (from-length n (suc i))
-
-picked-few : (t : ℕ → Bool) (xs : List ℕ) → length (pick t xs) ≤ length xs
-unfolding pick
-picked-few t [] = omega arith
-picked-few t (x ∷ xs) = go (t x) (picked-few t xs)
-  where
-    go : (b : Bool) → length (pick t xs) ≤ length xs → length (cond b (x ∷ []) [] ++ pick t xs) ≤ suc (length xs)
-    go true h = omega arith
-    go false h = omega arith
+use Rattle.refill.proofs.OpenCavity.{sound-list, open-bench, open-cavity, near, points-few, tets-few, its-mesh, its-cavity}
 
 module _ {cs : List ℤ} {ts qs cm pm : List ℕ} (o : Open-mesh cs ts qs cm pm) where
   -- the tetrahedra outside the cavity
@@ -45,8 +33,7 @@ module _ {cs : List ℤ} {ts qs cm pm : List ℕ} (o : Open-mesh cs ts qs cm pm)
   unfolding rest-fours parts
   rest-held e =
       let outside = pick (λ i. not (member i (marked 0 cm))) (from (length ts / 4) 0) in
-      let p = picked-few (λ i. not (member i (marked 0 cm))) (from (length ts / 4) 0) in
-      let n = from-length (length ts / 4) 0 in
+      let p = pick-few (λ i. not (member i (marked 0 cm))) (length ts / 4) 0 in
       let l = tets-few o in
       let m = length-map outside (nth (mesh-fours ts)) in
       let k = e .1 in record { count = omega arith; few = omega arith; laid = e .0 }

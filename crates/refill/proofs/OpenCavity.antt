@@ -18,7 +18,6 @@ use Rattle.laws.proofs.Bytes.{length-bytes}
 use Rattle.laws.proofs.Lists.{Each, each-of-members}
 use Rattle.laws.proofs.Points.{points-count}
 use Rattle.laws.proofs.Tests.{and-true}
-use Rattle.search.proofs.Context.{fours-in-length}
 use Rattle.bench_rules.specs.Bench.{Bench, Cavity, mesh-fours, nth, parts, coordinates, renumbered, cavity-triangles, cavity-table, any-tet-bad}
 use Rattle.bench_rules.specs.History.{Cavity-accepted}
 use Rattle.bench_rules.specs.Marks.{marked}
@@ -31,11 +30,8 @@ use Rattle.bench_rules.proofs.GoodMesh.{Mesh, held-opened}
 use Rattle.bench_rules.proofs.GoodTets.{Sound, each-sound, each-sound-of, each-parts}
 use Rattle.bench_rules.proofs.Opened.{Opened, opened-has}
 use Rattle.bench_rules.proofs.ValidReplace.{mesh-fours-bytes}
-use Rattle.refill.proofs.MarkedNumbers.{marked-few, marks-within}
-
-pub mesh-fours-length : (ts : List ℕ) → length (mesh-fours ts) ≡ length ts / 4
-unfolding mesh-fours
-mesh-fours-length ts = fours-in-length (length ts / 4) ts
+use Rattle.bench_rules.proofs.Marked.{marked-few, marks-within}
+use Rattle.bench_rules.proofs.MeshFours.{mesh-fours-length}
 
 -- ---- a list of sound fours as bytes
 pub sound-list : (cs : List ℤ) (fs : List Four) → any-far cs ≡ false → length (points-in cs) ≤ 64 → length fs ≤ 256 → Each (Sound (points-in cs)) fs → Sound-mesh cs (bytes fs)
@@ -93,12 +89,12 @@ module _ {cs : List ℤ} {ts qs cm pm : List ℕ} (o : Open-mesh cs ts qs cm pm)
   pub points-within : Marks-within (length cs / 3) pm
   unfolding bench-of marked-cavity
   points-within =
-      marks-within pm (λ i a. let h = point-present open-bench open-cavity its-cavity i a in let e = points-count cs in omega arith)
+      marks-within (length cs / 3) pm (λ i a. let h = point-present open-bench open-cavity its-cavity i a in let e = points-count cs in omega arith)
 
   pub cavity-within : Marks-within (length ts / 4) cm
   unfolding bench-of marked-cavity
   cavity-within =
-      marks-within cm (λ i a. let h = tet-inside open-bench open-cavity its-cavity i a .1 in let e = mesh-fours-length ts in omega arith)
+      marks-within (length ts / 4) cm (λ i a. let h = tet-inside open-bench open-cavity its-cavity i a .1 in let e = mesh-fours-length ts in omega arith)
 
   pub cavity-points-few : length (marked 0 pm) ≤ 16
   unfolding marked-cavity

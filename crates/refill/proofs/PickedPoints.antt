@@ -16,8 +16,9 @@ use Rattle.bench_rules.specs.Marks.{marked, entries}
 use Rattle.bench_rules.specs.Sound.{Marks-within}
 use Rattle.bench_rules.proofs.Picked.{pick-each}
 use Rattle.bench_rules.proofs.CavityPoints.{coordinates-length}
-use Rattle.refill.proofs.Laid.{entries-empty, entries-put, entries-put-three}
-use Rattle.refill.proofs.Marked.{pick-taken, pick-passed, pick-grows, has-mark, marked-within}
+use Rattle.bench_rules.proofs.Entries.{entries-none, entries-put, entries-put-three}
+use Rattle.bench_rules.proofs.PickedInTurn.{pick-taken, pick-passed, pick-grows}
+use Rattle.refill.proofs.Marked.{has-mark, marked-within}
 
 three-there :
     (cs : List ℤ) (p : ℕ) → p * 3 + 2 < length cs →
@@ -65,7 +66,7 @@ pub record Picked-points (cs : List ℤ) (t : ℕ → Bool) (i : ℕ) (number : 
 
 pub points-start : (cs : List ℤ) (t : ℕ → Bool) → Picked-points cs t 0 (replicate 16 0) (replicate 48 (pos 0)) 0
 unfolding from pick coordinates
-points-start cs t = record { numbers = entries-empty 16 0; laid = entries-empty 48 (pos 0); many = refl }
+points-start cs t = record { numbers = entries-none 0 16; laid = entries-none (pos 0) 48; many = refl }
 
 module _ {cs : List ℤ} {t : ℕ → Bool} {i : ℕ} {number : List ℕ} {coordinate : List ℤ} {count : ℕ} (w : Picked-points cs t i number coordinate count) where
   -- one more is no more than all
@@ -88,11 +89,11 @@ module _ {cs : List ℤ} {t : ℕ → Bool} {i : ℕ} {number : List ℕ} {coord
       let z = getD cs (i * 3 + 2) (pos 0) in
       record {
         numbers =
-            ap (λ (ns : List ℕ). set ns count i) (w .numbers) ∙ entries-put 16 0 (pick t (from i 0)) count i (sym (w .many)) few
+            ap (λ (ns : List ℕ). set ns count i) (w .numbers) ∙ entries-put 0 16 (pick t (from i 0)) count i (sym (w .many)) few
             ∙ ap (entries 16 0) (sym (pick-taken t i h));
         laid =
             ap (put-three count x y z) (w .laid)
-            ∙ entries-put-three 48 (pos 0) (coordinates cs (pick t (from i 0))) (count * 3) x y z (long (omega arith)) (omega arith)
+            ∙ entries-put-three (pos 0) 48 (coordinates cs (pick t (from i 0))) (count * 3) x y z (long (omega arith)) (omega arith)
             ∙ ap (entries 48 (pos 0)) (sym (coordinates-more cs (pick t (from i 0)) i l) ∙ ap (coordinates cs) (sym (pick-taken t i h)));
         many = ap (λ (n : ℕ). n + 1) (w .many) ∙ sym (ap length (pick-taken t i h) ∙ length-append (pick t (from i 0)) (i ∷ []));
       }

@@ -16,8 +16,10 @@ use Rattle.bench_rules.specs.Sound.{Marks-within}
 use Rattle.bench_rules.proofs.PickedNumbers.{picked-same}
 use Rattle.search.specs.Filing.{copied}
 use Rattle.search.proofs.CoverageByNumber.{nth-bytes}
-use Rattle.refill.proofs.Laid.{entries-empty, entries-put-four}
-use Rattle.refill.proofs.Marked.{pick-taken, pick-passed, pick-few, has-mark, marked-within, member-marked}
+use Rattle.bench_rules.proofs.Entries.{entries-none, entries-put-four}
+use Rattle.bench_rules.proofs.PickedInTurn.{pick-taken, pick-passed, pick-few}
+use Rattle.bench_rules.proofs.Marked.{member-marked}
+use Rattle.refill.proofs.Marked.{has-mark, marked-within}
 
 pub bytes-append : (fs gs : List Four) → bytes (fs ++ gs) ≡ bytes fs ++ bytes gs
 unfolding bytes
@@ -41,7 +43,7 @@ pub record Picked-tets (ts : List ℕ) (t : ℕ → Bool) (i : ℕ) (tet : List 
 
 pub tets-start : (ts : List ℕ) (t : ℕ → Bool) → Picked-tets ts t 0 (replicate 1024 0) 0
 unfolding from pick parts bytes
-tets-start ts t = record { laid = entries-empty 1024 0; many = refl }
+tets-start ts t = record { laid = entries-none 0 1024; many = refl }
 
 module _ {ts : List ℕ} {t : ℕ → Bool} {i : ℕ} {tet : List ℕ} {count : ℕ} (w : Picked-tets ts t i tet count) where
   pub tets-few : count ≤ i
@@ -62,7 +64,7 @@ module _ {ts : List ℕ} {t : ℕ → Bool} {i : ℕ} {tet : List ℕ} {count : 
       record {
         laid =
             ap (copied i count ts) (w .laid)
-            ∙ entries-put-four 1024 0 (bytes (parts (mesh-fours ts) (pick t (from i 0)))) (count * 4) a b c d long (omega (arith, tets-few))
+            ∙ entries-put-four 0 1024 (bytes (parts (mesh-fours ts) (pick t (from i 0)))) (count * 4) a b c d long (omega (arith, tets-few))
             ∙ ap (entries 1024 0) (sym (bytes-more ts (pick t (from i 0)) i l) ∙ ap (λ (is : List ℕ). bytes (parts (mesh-fours ts) is)) (sym (pick-taken t i h)));
         many = ap (λ (n : ℕ). n + 1) (w .many) ∙ sym (ap length (pick-taken t i h) ∙ length-append (pick t (from i 0)) (i ∷ []));
       }
@@ -94,7 +96,7 @@ pub tets-outside :
     {ts : List ℕ} (ms : List ℕ) {tet : List ℕ} {count : ℕ} → Picked-tets ts (outside ms) (length ts / 4) tet count →
     (tet ≡ entries 1024 0 (bytes (parts (mesh-fours ts) (pick (λ i. not (member i (marked 0 ms))) (from (length ts / 4) 0)))))
     × (count ≡ length (pick (λ i. not (member i (marked 0 ms))) (from (length ts / 4) 0)))
-unfolding outside
+unfolding outside has-mark
 tets-outside {ts} ms w =
     let e = picked-same (outside ms) (λ (i : ℕ). not (member i (marked 0 ms))) (from (length ts / 4) 0) (λ i m. ap not (sym (member-marked ms i))) in
     (w .laid ∙ ap (λ (is : List ℕ). entries 1024 0 (bytes (parts (mesh-fours ts) is))) e, w .many ∙ ap length e)

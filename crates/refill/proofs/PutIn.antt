@@ -17,10 +17,10 @@ use Rattle.laws.specs.Laws.{all-faces, once, bytes, fours-in}
 use Rattle.bench_rules.specs.Bench.{Bench, Done, mesh-fours, mesh-qualities, put-in, done, refused}
 use Rattle.bench_rules.specs.Marks.{entries}
 use Rattle.bench_rules.specs.Sound.{Sound-mesh, bench-of}
+use Rattle.bench_rules.proofs.Entries.{entries-none}
+use Rattle.bench_rules.proofs.MeshFours.{mesh-fours-length}
 use Rattle.refill.specs.Refill.{refilled-as, refused-with, put-list}
 use Rattle.refill.specs.declared.refill.Refilled.{Refilled}
-use Rattle.refill.proofs.Entries.{entries-none}
-use Rattle.refill.proofs.OpenCavity.{mesh-fours-length}
 
 abbrev made : (number count : ℕ) → (tets qualities : List ℕ) → Refilled
 made n k ts qs = record { number = n; «tet_count» = k; tets = ts; qualities = qs }
@@ -28,7 +28,7 @@ made n k ts qs = record { number = n; «tet_count» = k; tets = ts; qualities = 
 pub refused-is : (n : ℕ) → made n 0 (replicate 1024 0) (replicate 256 0) ≡ refused-with n
 unfolding refused-with
 refused-is n =
-    ap (λ (x : List ℕ). made n 0 x (replicate 256 0)) (sym (entries-none 0 1024)) ∙ ap (made n 0 (entries 1024 0 [])) (sym (entries-none 0 256))
+    ap (λ (x : List ℕ). made n 0 x (replicate 256 0)) (entries-none 0 1024) ∙ ap (made n 0 (entries 1024 0 [])) (entries-none 0 256)
 
 pub refused-as : (n : ℕ) (b : Bench) → refused-with (suc n) ≡ refilled-as (suc n) b
 unfolding refused-with refilled-as

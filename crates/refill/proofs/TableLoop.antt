@@ -19,7 +19,7 @@ use Rattle.bench_rules.proofs.AllPlaces.{all-fours-length}
 use Rattle.search.specs.Tables.{Stage}
 use Rattle.search.specs.Filing.{Follows}
 use Rattle.search.proofs.FourSteps.{staged-next}
-use Rattle.refill.proofs.Laid.{entries-empty, entries-put}
+use Rattle.bench_rules.proofs.Entries.{entries-none, entries-put}
 use Rattle.refill.proofs.FourChain.{Ahead, chain-start, chain-next, chain-end}
 
 -- no more than 1,820 fours of 16 points
@@ -50,7 +50,7 @@ table-start cs n e h =
       rest = all-fours n;
       whole = refl;
       ahead = chain-start n h;
-      laid = entries-empty 1820 (pos 0);
+      laid = entries-none (pos 0) 1820;
       many = refl;
       ab = omega arith;
       bc = omega arith;
@@ -86,7 +86,7 @@ module _ {cs : List ℤ} {n : ℕ} {entry : List ℤ} {count : ℕ} {f : Four} (
         ahead = x .onward s;
         laid =
             ap (λ (l : List ℤ). set l count e) (w .laid)
-            ∙ entries-put 1820 (pos 0) (map (four-entry (points-in cs)) (w .past)) count e (length-map (w .past) (four-entry (points-in cs)) ∙ sym (w .many)) (table-room few h)
+            ∙ entries-put (pos 0) 1820 (map (four-entry (points-in cs)) (w .past)) count e (length-map (w .past) (four-entry (points-in cs)) ∙ sym (w .many)) (table-room few h)
             ∙ ap (λ (y : ℤ). entries 1820 (pos 0) (map (four-entry (points-in cs)) (w .past) ++ (y ∷ []))) q
             ∙ ap (entries 1820 (pos 0)) (sym (map-append (four-entry (points-in cs)) (w .past) (f ∷ [])));
         many = ap (λ (k : ℕ). k + 1) (w .many) ∙ sym (length-append (w .past) (f ∷ []));

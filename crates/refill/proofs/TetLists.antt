@@ -1,6 +1,6 @@
 -- Arrays that hold a list of fours: what is read from them, and two of them in one. Assumes nothing.
-use mathlib.Core.Path.{_≡_, refl, sym, ap, _∙_}
-use mathlib.Core.List.{List, [], _∷_, _++_, map}
+use mathlib.Core.Path.{_≡_, sym, ap, _∙_}
+use mathlib.Core.List.{List, _++_, map}
 use Prim.Native.Nat.{ℕ, _+_, _*_, _≤_}
 use native.Mathlib.Omega.{arith}
 use lib.ListN.{length, length-append, length-map}
@@ -10,14 +10,10 @@ use Rattle.laws.proofs.Bytes.{length-bytes}
 use Rattle.search.proofs.Context.{fours-in-length}
 use Rattle.bench_rules.specs.Bench.{back}
 use Rattle.bench_rules.specs.Marks.{entries}
+use Rattle.bench_rules.proofs.Entries.{array-read}
 use Rattle.refill.specs.Refill.{tets-of, Laid-out}
 use Rattle.refill.specs.declared.gather.TetList.{TetList}
-use Rattle.refill.proofs.Entries.{array-read}
-
-bytes-append : (fs gs : List Four) → bytes (fs ++ gs) ≡ bytes fs ++ bytes gs
-unfolding bytes
-bytes-append [] gs = refl
-bytes-append (f ∷ fs) gs = ap (λ (l : List ℕ). f .a ∷ f .b ∷ f .c ∷ f .d ∷ l) (bytes-append fs gs)
+use Rattle.refill.proofs.PickedTets.{bytes-append}
 
 pub record Holds (fs : List Four) (t : TetList) : Type 0 where
   pub count : t .count ≡ length fs

@@ -10,7 +10,7 @@ use lib.ListN.{length, getD, take}
 use lib.Seq.{take-all}
 use Rattle.bench_rules.specs.Bench.{least-of}
 use Rattle.bench_rules.specs.Marks.{marked}
-use Rattle.refill.proofs.MarkedNumbers.{marked-more}
+use Rattle.bench_rules.proofs.Marked.{marked-more}
 
 least-append : (w : ℕ) (qs xs ys : List ℕ) → least-of w qs (xs ++ ys) ≡ least-of (least-of w qs xs) qs ys
 unfolding least-of

@@ -3,20 +3,20 @@ use mathlib.Core.Path.{_≡_}
 use mathlib.Core.Logic.{⊎-elim}
 use Prim.Native.Nat.{_+_, _-_, _≤_}
 use native.Mathlib.Omega.{arith}
-use lib.ListN.{length, drop}
+use lib.ListN.{length}
 use Rattle.bench_rules.specs.Marks.{marked}
-use Rattle.bench.proofs.MarkedNumbers.{marked-end, count-set, count-unset}
+use Rattle.mesh.proofs.MarkTests.{marked-left, left-at-start, left-marked, left-unmarked, left-at-end}
 use Rattle.bench.proofs.grow.count_marked.Statement.{statement}
 use Rattle.bench.proofs.grow.count_marked.Tie as tie
 
 abbrev Inv-loop : tie.InvT-loop
-Inv-loop list k₀ i₀ i-end k i = (i ≤ i-end) × (i-end ≡ length list) × (k ≤ i) × (k + length (marked i (drop i list)) ≡ length (marked 0 list))
+Inv-loop list k₀ i₀ i-end k i = (i ≤ i-end) × (i-end ≡ length list) × (k ≤ i) × (k + marked-left list i ≡ length (marked 0 list))
 
 abbrev μ-loop : tie.MeasureT-loop
 μ-loop list k₀ i₀ i-end k i = i-end - i
 
 loop-holds : tie.Need-loop-holds Inv-loop μ-loop
-loop-holds c = (omega arith, omega arith, omega arith, omega arith)
+loop-holds c = let e = left-at-start (c .args .list .now) in (omega arith, omega arith, omega arith, omega arith)
 
 shared-slice-read-if1 : tie.Need-shared-slice-read-if1 Inv-loop μ-loop
 shared-slice-read-if1 c = omega arith
@@ -35,15 +35,14 @@ loop-again c =
     let o = c .before .before .before in
     let list = o .before .args .list .now in
     let i = o .loop .i in
-    let k = o .loop .k in
     ⊎-elim
-    (λ w. let h = count-set list i k (omega arith) (w .0 .taken) in (omega arith, omega arith, omega arith, omega arith))
-    (λ w. let h = count-unset list i k (omega arith) (w .0 .left) in (omega arith, omega arith, omega arith, omega arith))
+    (λ w. let h = left-marked list i (omega arith) (w .0 .taken) in (omega arith, omega arith, omega arith, omega arith))
+    (λ w. let h = left-unmarked list i (omega arith) (w .0 .left) in (omega arith, omega arith, omega arith, omega arith))
     (c .if1 .came)
 
 returns : tie.Need-returns Inv-loop μ-loop
 returns c =
-    let o = c .before in let h = marked-end (o .before .args .list .now) (o .loop .i) (omega arith) in omega arith
+    let o = c .before in let h = left-at-end (o .before .args .list .now) (o .loop .i) (omega arith) in omega arith
 
 pub count-marked-spec : {M : Type 1} → statement M
 count-marked-spec =

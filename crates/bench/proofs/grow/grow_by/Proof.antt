@@ -4,8 +4,8 @@ use native.Mathlib.Omega.{arith}
 use borrow.Author.Needs.{needs}
 use lib.ListN.{length}
 use Rattle.bench_rules.specs.Marks.{marks}
+use Rattle.bench_rules.proofs.MarksRead.{marks-length}
 use Rattle.bench.specs.Store.{Fits}
-use Rattle.bench.proofs.MarkedNumbers.{marks-long}
 use Rattle.bench.proofs.HeldMesh.{Held-open, held-open, tets-long, qualities-long, corners-below, points-marked}
 use Rattle.bench.proofs.GrowAnswers.{near-by, growing}
 use Rattle.bench.proofs.GrowDone.{corner-is, corner-present, grow-done}
@@ -106,7 +106,7 @@ spanned-requires c κs =
     let n = h .counts .points-few in
     let m = h .counts .tets-few in
     let e = c .before .before .before .with-point .ensures in
-    (omega arith, ap length e ∙ marks-long 64 _, corners-below s h 64 n)
+    (omega arith, ap length e ∙ marks-length 64 _, corners-below s h 64 n)
 
 with-cavity-requires : tie.Need-with-cavity-requires
 with-cavity-requires c κs = search needs

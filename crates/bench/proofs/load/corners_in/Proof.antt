@@ -4,7 +4,7 @@ use Prim.Native.Nat.{_-_, _≤_}
 use native.Mathlib.Omega.{arith}
 use lib.ListN.{length, take}
 use Rattle.bench_rules.specs.Marks.{entries}
-use Rattle.bench.proofs.Entries.{entries-none, entries-more, entries-all}
+use Rattle.bench_rules.proofs.Entries.{entries-none, entries-more, entries-all}
 use Rattle.bench.proofs.load.corners_in.Statement.{statement}
 use Rattle.bench.proofs.load.corners_in.Tie as tie
 

@@ -4,7 +4,7 @@ use mathlib.Core.Logic.{⊎-elim}
 use Prim.Native.Nat.{_≤_, _-_, _/_}
 use native.Mathlib.Omega.{arith}
 use lib.ListN.{length}
-use Rattle.growth.proofs.MeshFours.{corners-below-is}
+use Rattle.bench_rules.proofs.MeshFours.{corners-below-is}
 use Rattle.growth.proofs.Marking.{Marks-to, marks-to-none, marks-to-more, marks-to-same}
 use Rattle.growth.proofs.Spanning.{is-spanned, spanned-at, spanned-all}
 use Rattle.growth.proofs.span.spanned.Statement.{statement}

@@ -3,7 +3,7 @@ use mathlib.Core.Path.{sym, _∙_}
 use borrow.Author.Tests.{not-false}
 use Rattle.bench_rules.specs.Bench.{mesh-fours}
 use Rattle.bench_rules.specs.Marks.{marked}
-use Rattle.mesh.proofs.CavityTests.{marks-within, wrong-count, wrong-tets, right-but-points}
+use Rattle.mesh.proofs.CavityTests.{tets-within, wrong-count, wrong-tets, right-but-points}
 use native.Mathlib.Omega.{arith}
 use Rattle.mesh.proofs.cavity.is_cavity_right.Statement.{statement}
 use Rattle.mesh.proofs.cavity.is_cavity_right.Tie as tie
@@ -27,7 +27,7 @@ are-points-right-requires : tie.Need-are-points-right-requires
 are-points-right-requires c κs =
     let s = c .before .before .before .before .before .before .before .before .args in
     let p = c .before .before .before .before .before .before .before .before .pre in
-    (omega (arith, p .0, p .3), omega (arith, p .1, p .2), marks-within (s .tets .now) (s .in-cavity .now) (s .in-points .now) (sym (c .before .are-tets-right .ensures) ∙ not-false (c .before .are-tets-right .result) (c .if2 .left)))
+    (omega (arith, p .0, p .3), omega (arith, p .1, p .2), tets-within (s .tets .now) (s .in-cavity .now) (s .in-points .now) (sym (c .before .are-tets-right .ensures) ∙ not-false (c .before .are-tets-right .result) (c .if2 .left)))
 
 returns-3 : tie.Need-returns-3
 returns-3 c =

@@ -1,6 +1,6 @@
 -- `mesh::cavity::is_marked` meets its contract. Assumes nothing.
 use mathlib.Core.Path.{sym}
-use Rattle.mesh.proofs.Marked.{member-marked}
+use Rattle.bench_rules.proofs.Marked.{member-marked}
 use Rattle.mesh.proofs.MarkTests.{unmarked-behind}
 use borrow.Author.Needs.{needs}
 use Rattle.mesh.proofs.cavity.is_marked.Statement.{statement}

@@ -5,7 +5,7 @@ use Prim.Native.Nat.{_≤_, _-_, _/_}
 use lib.ListN.{length}
 use Rattle.geometry.specs.Space.{points-in}
 use Rattle.bench_rules.specs.Marks.{entries}
-use Rattle.mesh.proofs.MeshFours.{present-at}
+use Rattle.bench_rules.proofs.MeshFours.{present-at}
 use Rattle.mesh.proofs.FaceNumbers.{oriented-small, codes-in, codes-none, codes-put, codes-all}
 use native.Mathlib.Omega.{arith}
 use Rattle.mesh.proofs.faces.face_codes.Statement.{statement}

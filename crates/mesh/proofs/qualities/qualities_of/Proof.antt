@@ -6,7 +6,7 @@ use lib.ListN.{length}
 use Rattle.geometry.specs.Space.{points-in}
 use Rattle.geometry.specs.Measure.{four-quality}
 use Rattle.bench_rules.specs.Marks.{entries}
-use Rattle.mesh.proofs.MeshFours.{present-at}
+use Rattle.bench_rules.proofs.MeshFours.{present-at}
 use Rattle.mesh.proofs.Measured.{qualities-in, qualities-none, qualities-put, qualities-all}
 use native.Mathlib.Omega.{arith}
 use Rattle.mesh.proofs.qualities.qualities_of.Statement.{statement}

@@ -2,8 +2,9 @@
 use Prim.Native.Nat.{_-_, _/_, _≤_}
 use native.Mathlib.Omega.{arith}
 use lib.ListN.{length}
+use Rattle.bench_rules.proofs.MeshFours.{present-at}
 use Rattle.refill.specs.Faces.{Listed}
-use Rattle.refill.proofs.BoundaryLoop.{open-before, boundary-start, boundary-room, boundary-more, boundary-end, tet-present, tet-small}
+use Rattle.refill.proofs.BoundaryLoop.{open-before, boundary-start, boundary-room, boundary-more, boundary-end, tet-small}
 use Rattle.refill.proofs.boundary.boundary_from.Statement.{statement}
 use Rattle.refill.proofs.boundary.boundary_from.Tie as tie
 
@@ -25,7 +26,7 @@ four-at-requires c κs = omega arith
 oriented-requires : tie.Need-oriented-requires Inv-loop μ-loop
 oriented-requires c κs =
     let s = c .before .before .before .before .before .before in
-    tet-present (s .args .points .now) (s .args .inside .now) (s .pre .0) (c .before .before .loop .i) (omega arith) (c .four-at .ensures)
+    present-at (s .args .points .now) (s .args .inside .now) (s .pre .0) (c .before .before .loop .i) (omega arith) (c .four-at .ensures)
 
 with-faces-requires : tie.Need-with-faces-requires Inv-loop μ-loop
 with-faces-requires c κs =

@@ -1,7 +1,7 @@
 -- `refill::filling::best_filling` meets its contract: each callee is given the cavity's lists, and the search the cavity as a job. Assumes nothing.
 use native.Mathlib.Omega.{arith}
 use lib.IntN.{pos}
-use Rattle.refill.proofs.Entries.{array-room, array-counted}
+use Rattle.bench_rules.proofs.Entries.{array-room, array-counted}
 use Rattle.refill.proofs.OpenCavity.{points-few, tets-few, points-within, cavity-within, cavity-points-few}
 use Rattle.refill.proofs.CavityArrays.{points-held, coordinates-held, inside-held, boundary-given, boundary-held, table-given}
 use Rattle.refill.proofs.BestFilling.{best-filled}

@@ -2,7 +2,7 @@
 use native.Mathlib.Omega.{arith}
 use borrow.Author.Needs.{needs}
 use lib.IntN.{pos}
-use Rattle.refill.proofs.Entries.{array-room, array-counted}
+use Rattle.bench_rules.proofs.Entries.{array-room, array-counted}
 use Rattle.refill.proofs.CavityArrays.{table-held}
 use Rattle.refill.proofs.BestFilling.{table-searched}
 use Rattle.refill.proofs.filling.search_measured.Statement.{statement}

@@ -4,7 +4,7 @@ use Prim.Native.Nat.{ℕ}
 use native.Mathlib.Omega.{arith}
 use borrow.Author.Needs.{needs, length-unmapped}
 use Rattle.laws.proofs.Conditions.{keeps}
-use Rattle.refill.proofs.Entries.{array-room, array-counted}
+use Rattle.bench_rules.proofs.Entries.{array-room, array-counted}
 use Rattle.refill.proofs.OpenCavity.{tets-few}
 use Rattle.refill.proofs.CavityArrays.{points-held}
 use Rattle.refill.proofs.TetLists.{holds-laid}

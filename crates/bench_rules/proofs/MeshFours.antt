@@ -1,4 +1,5 @@
--- The fours of a mesh by number: how many, the i-th, the first ones with one more, and what is so of each in a sound mesh. Assumes nothing.
+-- The fours of a mesh by number: how many, the i-th, the first ones with one more, their corners below a number, and what is so of each
+-- in a sound mesh. Assumes nothing.
 use mathlib.Core.Path.{_≡_, refl, sym, ap, _∙_, subst}
 use mathlib.Core.List.{List, [], _∷_, _++_}
 use Prim.Native.Nat.{ℕ, zero, suc, _+_, _*_, _/_, _<_}
@@ -11,11 +12,11 @@ use Rattle.geometry.specs.Space.{four, points-in}
 use Rattle.geometry.specs.Range.{Present}
 use Rattle.geometry.specs.declared.tetrahedron.Four.{Four}
 use Rattle.laws.specs.Laws.{fours-in}
-use Rattle.laws.specs.ListedFours.{four-at, fours-from}
+use Rattle.laws.specs.ListedFours.{four-at, fours-from, Below}
 use Rattle.laws.proofs.FourList.{fours-start, each-at}
 use Rattle.bench_rules.specs.Bench.{mesh-fours, nth}
-use Rattle.bench_rules.specs.Sound.{Sound-mesh}
+use Rattle.bench_rules.specs.Sound.{Sound-mesh, Corners-below}
 use Rattle.bench_rules.proofs.GoodTets.{Sound, each-sound}
 
 pub fours-in-length : (n : ℕ) (ts : List ℕ) → length (fours-in n ts) ≡ n
 unfolding fours-in
@@ -58,6 +59,16 @@ fours-in-nth (suc n) ts (suc i) h = fours-in-nth n (drop 4 ts) i (omega arith) �
 pub mesh-nth : (ts : List ℕ) (i : ℕ) → i < length ts / 4 → nth (mesh-fours ts) i ≡ four-at ts i
 unfolding mesh-fours
 mesh-nth ts i h = fours-in-nth (length ts / 4) ts i h
+
+-- ---- corners below a number
+corners-below-at : (n : ℕ) (ts : List ℕ) (i : ℕ) → i < length ts / 4 → Corners-below n ts → Below n (four-at ts i)
+unfolding Corners-below four
+corners-below-at n ts i h w =
+    record { a = w (i * 4) (omega arith); b = w (i * 4 + 1) (omega arith); c = w (i * 4 + 2) (omega arith); d = w (i * 4 + 3) (omega arith) }
+
+-- the same of a tetrahedron that a function read
+pub corners-below-is : {n m : ℕ} (ts : List ℕ) (i : ℕ) {f : Four} → m ≡ n → i < length ts / 4 → Corners-below n ts → f ≡ four-at ts i → Below m f
+corners-below-is {n} {m} ts i e h w k = subst (Below m) (sym k) (corners-below-at m ts i h (subst (λ (x : ℕ). Corners-below x ts) (sym e) w))
 
 -- ---- in a sound mesh
 module _ (cs : List ℤ) (ts : List ℕ) (m : Sound-mesh cs ts) (i : ℕ) (h : i < length ts / 4) where
