@@ -66,7 +66,7 @@ extern "C" {
 #define COTTONTUFF_BENCH_POINTS 64
 #define COTTONTUFF_BENCH_TETS 256
 
-/* The stack that cottontuff_search, cottontuff_print and cottontuff_bench_replace need at most, with room to spare: the deepest that was measured is in docs/BENCHMARKS.md. */
+/* A stack for cottontuff_search, cottontuff_print and cottontuff_bench_replace: twice the deepest that was measured (docs/BENCHMARKS.md). It is not proved to be enough. */
 #define COTTONTUFF_STACK_BYTES (3 * 1024 * 1024 / 2)
 
 /* ---- what is answered: the lowest number that applies */
