@@ -12,14 +12,14 @@ use Rattle.laws.specs.Laws.{worst, Best, bytes, fours-in, lawful}
 use Rattle.laws.specs.Check.{job}
 use Rattle.laws.specs.Choice.{Choice}
 use Rattle.laws.specs.Lists.{Lists, job-of, refusal-of}
-use Rattle.laws.proofs.Bytes.{length-bytes}
+use Rattle.laws.proofs.Order.Bytes.{length-bytes}
 use Rattle.search.specs.Entry.{in-front, says, Searched, Search-says}
 use Rattle.search.specs.declared.search.Found.{Found}
 use Rattle.search.proofs.Answers.{searched-of, refused-of}
 use Rattle.text.specs.Print.{filling-out, refusal-out, choice-out, Printed-lists}
 use Rattle.text.specs.Printable.{Filled}
 use Rattle.text.proofs.Accepted.{filled, filling-out-kept, fours-in-front}
-use Rattle.laws.proofs.Deciding.{choice}
+use Rattle.laws.proofs.Choice.Deciding.{choice}
 
 as-refused : (l : Lists) (n m : ℕ) → (n ≡ 0 → ⊥) → m ≡ n → Printed-lists n l (refusal-out m)
 unfolding Printed-lists

@@ -10,8 +10,8 @@ use Rattle.geometry.specs.Space.{V3, four, points-in}
 use Rattle.geometry.specs.Measure.{clamped, millionths, is-flat, shape-of, four-quality}
 use Rattle.geometry.specs.declared.tetrahedron.Four.{Four}
 use Rattle.laws.specs.Laws.{fours-in}
-use Rattle.laws.proofs.Points.{points-count}
-use Rattle.laws.proofs.Lists.{Each, more}
+use Rattle.laws.proofs.Checker.Points.{points-count}
+use Rattle.laws.proofs.Basics.Lists.{Each, more}
 use Rattle.bench_rules.specs.Bench as B
 use Rattle.bench_rules.specs.Bench.{opened, held, mesh-fours, mesh-qualities}
 use Rattle.bench_rules.specs.Sound.{bench-of, marked-cavity, Marks-within, Corners-below}

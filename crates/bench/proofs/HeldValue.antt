@@ -10,8 +10,8 @@ use lib.Dec.{leb, eqb}
 use lib.ListN.{length, take}
 use lib.IntN.{ℤ, pos}
 use Rattle.geometry.specs.Space.{points-in}
-use Rattle.laws.proofs.Points.{points-count}
-use Rattle.laws.proofs.Tests.{and-true}
+use Rattle.laws.proofs.Checker.Points.{points-count}
+use Rattle.laws.proofs.Basics.Tests.{and-true}
 use Rattle.bench_rules.specs.Bench as B
 use Rattle.bench_rules.specs.Bench.{Cavity, Held, no-mesh, mesh, opened, held, held-with, mesh-good, cavity-good}
 use Rattle.bench_rules.specs.Marks.{entries}

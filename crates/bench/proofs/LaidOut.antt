@@ -9,8 +9,8 @@ use lib.Dec.{leb, eqb}
 use lib.ListN.{length}
 use lib.IntN.{ℤ, pos}
 use Rattle.geometry.specs.Space.{points-in}
-use Rattle.laws.proofs.Points.{points-count}
-use Rattle.laws.proofs.Tests.{and-true}
+use Rattle.laws.proofs.Checker.Points.{points-count}
+use Rattle.laws.proofs.Basics.Tests.{and-true}
 use Rattle.bench_rules.specs.Bench.{Cavity, with-cavity, mesh-fours}
 use Rattle.bench_rules.specs.Marks.{marked, marks, entries}
 use Rattle.bench_rules.specs.Sound.{bench-of, cavity-by, marked-cavity}

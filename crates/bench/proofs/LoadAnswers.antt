@@ -6,7 +6,7 @@ use Prim.Native.Nat.{ℕ, zero, suc, _/_}
 use native.Mathlib.Omega.{arith}
 use lib.ListN.{length}
 use lib.IntN.{ℤ, pos}
-use Rattle.laws.proofs.Points.{points-count}
+use Rattle.laws.proofs.Checker.Points.{points-count}
 use Rattle.bench_rules.specs.Bench.{Held, no-mesh, mesh, opened, held, refused, done, load, load-as, load-mesh, mesh-refusal, mesh-qualities}
 use Rattle.bench_rules.specs.Marks.{marks, entries}
 use Rattle.bench_rules.specs.Sound.{bench-of, Sound-mesh}

@@ -14,7 +14,7 @@ use Rattle.geometry.specs.Measure.{four-quality}
 use Rattle.geometry.specs.declared.tetrahedron.Four.{Four}
 use Rattle.laws.specs.Laws.{bytes, worst, once, all-faces}
 use Rattle.laws.specs.Fours.{from}
-use Rattle.laws.proofs.Bytes.{length-bytes}
+use Rattle.laws.proofs.Order.Bytes.{length-bytes}
 use Rattle.bench_rules.specs.Bench as B
 use Rattle.bench_rules.specs.Bench.{Cavity, Done, Held, no-mesh, mesh, opened, held, refused, done, with-cavity, spanned, load, load-as, load-mesh, mesh-refusal, mesh-qualities, mesh-fours, open-at, open-as, points-of, corner-of-any, grow, grow-as, grow-by, joins, around, pick, member, tets-in, corners-in, nth, close, close-as, Replaced, Replaced-as, replace-by, put-in, new-tets, cavity-worst, cavity-job, top-count}
 use Rattle.bench_rules.specs.Sound.{bench-of, cavity-by}

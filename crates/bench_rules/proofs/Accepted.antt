@@ -12,9 +12,9 @@ use Rattle.geometry.specs.Space.{point, points-in}
 use Rattle.laws.specs.Laws.{Tri, choose}
 use Rattle.laws.specs.Fours.{all-fours}
 use Rattle.laws.specs.Check.{job, job-refusal, tris-in, edges-in, edge-bad, two-alike, any-tri-bad, tris-alike, directed, unmatched}
-use Rattle.laws.proofs.Tests.{and-of}
-use Rattle.laws.proofs.Lists.{Each}
-use Rattle.laws.proofs.Conditions.{Accepted}
+use Rattle.laws.proofs.Basics.Tests.{and-of}
+use Rattle.laws.proofs.Basics.Lists.{Each}
+use Rattle.laws.proofs.Choice.Conditions.{Accepted}
 use Rattle.bench_rules.specs.Bench.{Bench, Cavity, coordinates, renumbered, cavity-triangles, cavity-table}
 use Rattle.bench_rules.specs.History.{Cavity-accepted}
 use Rattle.bench_rules.proofs.CavityPoints.{coordinates-length, coordinates-points, coordinates-near}

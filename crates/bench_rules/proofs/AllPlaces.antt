@@ -12,13 +12,13 @@ use Rattle.geometry.specs.declared.tetrahedron.Four.{Four}
 use Rattle.laws.specs.Laws.{choose, place, rising, four-before, law-1}
 use Rattle.laws.specs.Check.{over}
 use Rattle.laws.specs.Fours.{from, rest, with-each, all-fours}
-use Rattle.laws.specs.Members.{In, here, there}
-use Rattle.laws.proofs.Tests.{and-true, or-false-of}
-use Rattle.laws.proofs.TablePlace.{over-none}
-use Rattle.laws.proofs.Lists.{Each, none, more, each-at-member, each-map}
-use Rattle.laws.proofs.Sorted.{Sorted, start, next, Well-formed, law-1-sorted, law-1-well-formed}
-use Rattle.laws.proofs.Places.{place-rises, place-below}
-use Rattle.laws.proofs.AllFours.{well-formed-in-all}
+use Rattle.laws.specs.inner.Members.{In, here, there}
+use Rattle.laws.proofs.Basics.Tests.{and-true, or-false-of}
+use Rattle.laws.proofs.Order.TablePlace.{over-none}
+use Rattle.laws.proofs.Basics.Lists.{Each, none, more, each-at-member, each-map}
+use Rattle.laws.proofs.Order.Sorted.{Sorted, start, next, Well-formed, law-1-sorted, law-1-well-formed}
+use Rattle.laws.proofs.Order.Places.{place-rises, place-below}
+use Rattle.laws.proofs.Order.AllFours.{well-formed-in-all}
 
 -- ---- a test over numbers
 pub over-false-of : (l i : ℕ) (f : ℕ → Bool) → ((k : ℕ) → i ≤ k → k < i + l → f k ≡ false) → over l i f ≡ false

@@ -13,12 +13,12 @@ use Rattle.laws.specs.Laws.{Tri, tri, Edge, same-tri, reversed, has, faces, all
 use Rattle.laws.specs.Check.{tri-taken, tris-alike, directed, how-often, unmatched}
 use Rattle.geometry.proofs.Ring.{ring, var, _⊕_, _⊖_}
 use Rattle.geometry.proofs.Volume.{neg-of}
-use Rattle.laws.proofs.Tests.{contradiction, true-or-false, or-true, or-false-of}
-use Rattle.laws.specs.Members.{here, there}
-use Rattle.laws.proofs.Sums.{total, total-append}
-use Rattle.laws.proofs.Triangles.{back, Same, turn-0, turn-1, turn-2, same-refl, same-tri-true, Has, has-true, has-of, has-false, has-false-of, Once, empty, first}
-use Rattle.laws.proofs.Conforming.{Conforming}
-use Rattle.laws.proofs.Volume.{conforming-total}
+use Rattle.laws.proofs.Basics.Tests.{contradiction, true-or-false, or-true, or-false-of}
+use Rattle.laws.specs.inner.Members.{here, there}
+use Rattle.laws.proofs.Basics.Sums.{total, total-append}
+use Rattle.laws.proofs.Faces.Triangles.{back, Same, turn-0, turn-1, turn-2, same-refl, same-tri-true, Has, has-true, has-of, has-false, has-false-of, Once, empty, first}
+use Rattle.laws.proofs.Faces.Conforming.{Conforming}
+use Rattle.laws.proofs.Volume.Volume.{conforming-total}
 
 -- ---- the unmatched faces
 pub record Rim (T all : List Tri) : Type 0 where

@@ -10,8 +10,8 @@ use lib.Seq.{drop-cons}
 use Rattle.geometry.specs.Space.{point, points-in}
 use Rattle.geometry.specs.Range.{far, size, any-far}
 use Rattle.geometry.proofs.Points.{point-at, last-coordinate}
-use Rattle.laws.proofs.Tests.{or-false, or-false-of}
-use Rattle.laws.proofs.Lists.{Each, none, more}
+use Rattle.laws.proofs.Basics.Tests.{or-false, or-false-of}
+use Rattle.laws.proofs.Basics.Lists.{Each, none, more}
 use Rattle.bench_rules.specs.Bench.{coordinates}
 
 near-there : (cs : List ℤ) (i : ℕ) → any-far cs ≡ false → far (getD cs i (pos 0)) ≡ false

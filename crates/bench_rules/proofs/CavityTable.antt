@@ -15,10 +15,10 @@ use Rattle.geometry.specs.declared.tetrahedron.Four.{Four}
 use Rattle.laws.specs.Laws.{choose, place, entry, rising}
 use Rattle.laws.specs.Check.{entry-bad, any-entry-bad, unmeasured, solid-unmeasured, job}
 use Rattle.laws.specs.Fours.{all-fours}
-use Rattle.laws.proofs.Tests.{and-of, or-false-of}
-use Rattle.laws.proofs.Sorted.{Well-formed}
-use Rattle.laws.proofs.Places.{place-below}
-use Rattle.laws.proofs.TablePlace.{getD-inside}
+use Rattle.laws.proofs.Basics.Tests.{and-of, or-false-of}
+use Rattle.laws.proofs.Order.Sorted.{Well-formed}
+use Rattle.laws.proofs.Order.Places.{place-below}
+use Rattle.laws.proofs.Order.TablePlace.{getD-inside}
 use Rattle.bench_rules.specs.Bench.{cavity-table}
 use Rattle.bench_rules.proofs.AllPlaces.{over-false-of, all-fours-length, four-at-place}
 

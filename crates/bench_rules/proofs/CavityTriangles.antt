@@ -10,11 +10,11 @@ use Rattle.geometry.specs.Space.{V3, four, origin, point, points-in}
 use Rattle.geometry.specs.declared.tetrahedron.Four.{Four}
 use Rattle.laws.specs.Laws.{Tri, choose, all-faces}
 use Rattle.laws.specs.Check.{two-alike, any-tri-bad, tris-alike, directed, unmatched}
-use Rattle.laws.proofs.Lists.{Each, none, more, each-map}
-use Rattle.laws.proofs.Triangles.{Once, once-true, once-interleave}
-use Rattle.laws.proofs.Owners.{faces-interleave}
-use Rattle.laws.proofs.Binomials.{choose-monotone}
-use Rattle.laws.proofs.Conforming.{Conforming}
+use Rattle.laws.proofs.Basics.Lists.{Each, none, more, each-map}
+use Rattle.laws.proofs.Faces.Triangles.{Once, once-true, once-interleave}
+use Rattle.laws.proofs.Faces.Owners.{faces-interleave}
+use Rattle.laws.proofs.Order.Binomials.{choose-monotone}
+use Rattle.laws.proofs.Faces.Conforming.{Conforming}
 use Rattle.bench_rules.specs.Bench.{Bench, Cavity, mesh-fours, nth, points-of, tets-in, corner-of-any, corners-in, parts, unmatched-in, cavity-triangles}
 use Rattle.bench_rules.proofs.Cavity.{Rim, rim-closed, rim-unlike, edges-even}
 use Rattle.bench_rules.proofs.RimLeast.{rim-least}

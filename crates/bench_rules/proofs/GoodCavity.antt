@@ -13,10 +13,10 @@ use Rattle.geometry.specs.declared.tetrahedron.Four.{Four}
 use Rattle.laws.specs.Laws.{corner-of}
 use Rattle.laws.specs.Check.{job}
 use Rattle.laws.specs.Fours.{from}
-use Rattle.laws.specs.Members.{Any, here, there}
-use Rattle.laws.proofs.Points.{points-count}
-use Rattle.laws.proofs.Tests.{contradiction, and-true, and-of, or-true, or-left, or-right}
-use Rattle.laws.proofs.Lists.{Each, each-of-members}
+use Rattle.laws.specs.inner.Members.{Any, here, there}
+use Rattle.laws.proofs.Checker.Points.{points-count}
+use Rattle.laws.proofs.Basics.Tests.{contradiction, and-true, and-of, or-true, or-left, or-right}
+use Rattle.laws.proofs.Basics.Lists.{Each, each-of-members}
 use Rattle.bench_rules.specs.Bench.{Bench, Cavity, cavity-good, same-numbers, points-of, tets-in, mesh-fours, corner-of-any, corners-in, member, nth, cavity-job}
 use Rattle.bench_rules.proofs.Picked.{same-numbers-true}
 use Rattle.bench_rules.proofs.GoodMesh.{same-numbers-is}

@@ -13,7 +13,7 @@ use Rattle.geometry.specs.Space.{points-in}
 use Rattle.geometry.specs.Range.{any-far}
 use Rattle.laws.specs.Laws.{all-faces, once}
 use Rattle.laws.specs.Check.{two-alike}
-use Rattle.laws.proofs.Tests.{contradiction, and-true, and-of}
+use Rattle.laws.proofs.Basics.Tests.{contradiction, and-true, and-of}
 use Rattle.bench_rules.specs.Bench.{Bench, Cavity, Held, no-mesh, mesh, opened, held, held-with, mesh-refusal, mesh-qualities, mesh-good, cavity-good, any-tet-bad, mesh-fours, same-numbers}
 use Rattle.bench_rules.proofs.Picked.{same-numbers-true}
 

@@ -10,9 +10,9 @@ use lib.ListN.{length}
 use Rattle.geometry.specs.Space.{V3, solid, turned}
 use Rattle.geometry.specs.declared.tetrahedron.Four.{Four}
 use Rattle.laws.specs.Laws.{Tri, faces, all-faces}
-use Rattle.laws.proofs.Tests.{or-false, or-false-of}
-use Rattle.laws.proofs.Lists.{Each, none, more, any-append-left, any-append-right}
-use Rattle.laws.proofs.Triangles.{Has, Once, once-append-disjoint, once-append-right}
+use Rattle.laws.proofs.Basics.Tests.{or-false, or-false-of}
+use Rattle.laws.proofs.Basics.Lists.{Each, none, more, any-append-left, any-append-right}
+use Rattle.laws.proofs.Faces.Triangles.{Has, Once, once-append-disjoint, once-append-right}
 use Rattle.bench_rules.specs.Bench.{tet-bad, any-tet-bad, nth, parts}
 
 -- four distinct present points, not flat

@@ -10,8 +10,8 @@ use lib.Dec.{ltb, eqb}
 use lib.ListN.{length}
 use Rattle.geometry.specs.declared.tetrahedron.Four.{Four}
 use Rattle.laws.specs.Laws.{corner-of}
-use Rattle.laws.specs.Members.{here, there}
-use Rattle.laws.proofs.Tests.{contradiction, or-true, or-false, or-left, or-right}
+use Rattle.laws.specs.inner.Members.{here, there}
+use Rattle.laws.proofs.Basics.Tests.{contradiction, or-true, or-false, or-left, or-right}
 use Rattle.bench_rules.specs.Bench.{Bench, Cavity, common, met, sum-of, beats, joins}
 use Rattle.bench_rules.proofs.PickedNumbers.{Among}
 use Rattle.bench_rules.proofs.GoodCavity.{Inside}

@@ -12,10 +12,10 @@ use Rattle.geometry.specs.Space.{points-in}
 use Rattle.geometry.specs.declared.tetrahedron.Four.{Four}
 use Rattle.laws.specs.Laws.{corner-of}
 use Rattle.laws.specs.Fours.{from}
-use Rattle.laws.specs.Members.{Any, here, there}
-use Rattle.laws.proofs.Points.{points-count}
-use Rattle.laws.proofs.Tests.{contradiction, and-true, and-of, or-true, not-of}
-use Rattle.laws.proofs.Lists.{find}
+use Rattle.laws.specs.inner.Members.{Any, here, there}
+use Rattle.laws.proofs.Checker.Points.{points-count}
+use Rattle.laws.proofs.Basics.Tests.{contradiction, and-true, and-of, or-true, not-of}
+use Rattle.laws.proofs.Basics.Lists.{find}
 use Rattle.bench_rules.specs.Bench.{Bench, Cavity, mesh-fours, nth, member, corners-in, tets-in, common, touches, around, met, joins}
 use Rattle.bench_rules.proofs.GoodMesh.{Mesh}
 use Rattle.bench_rules.proofs.GoodTets.{Sound, each-sound, each-nth}

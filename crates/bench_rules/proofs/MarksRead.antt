@@ -11,8 +11,8 @@ use lib.Dec.{eqb}
 use lib.ListN.{length, getD, set, replicate, length-map, length-set, length-replicate, getD-replicate}
 use lib.Seq.{ext-getD, getD-set-same, getD-set-other}
 use Rattle.laws.specs.Fours.{from}
-use Rattle.laws.specs.Members.{here}
-use Rattle.laws.proofs.Tests.{true-or-false}
+use Rattle.laws.specs.inner.Members.{here}
+use Rattle.laws.proofs.Basics.Tests.{true-or-false}
 use Rattle.bench_rules.specs.Bench.{member, pick}
 use Rattle.bench_rules.specs.Marks.{marked, marks}
 use Rattle.bench_rules.specs.Sound.{Marks-within}

@@ -12,8 +12,8 @@ use Rattle.geometry.specs.Space.{four, points-in}
 use Rattle.geometry.specs.Range.{Present}
 use Rattle.geometry.specs.declared.tetrahedron.Four.{Four}
 use Rattle.laws.specs.Laws.{fours-in}
-use Rattle.laws.specs.ListedFours.{four-at, fours-from, Below}
-use Rattle.laws.proofs.FourList.{fours-start, each-at}
+use Rattle.laws.specs.inner.ListedFours.{four-at, fours-from, Below}
+use Rattle.laws.proofs.Judge.FourList.{fours-start, each-at}
 use Rattle.bench_rules.specs.Bench.{mesh-fours, nth}
 use Rattle.bench_rules.specs.Sound.{Sound-mesh, Corners-below}
 use Rattle.bench_rules.proofs.GoodTets.{Sound, each-sound}

@@ -12,10 +12,10 @@ use Rattle.geometry.specs.declared.tetrahedron.Four.{Four}
 use Rattle.geometry.proofs.Measuring.{magnitude-value}
 use Rattle.geometry.proofs.Volume.{det-swapped, turned-positive}
 use Rattle.laws.specs.Fours.{from}
-use Rattle.laws.proofs.Lists.{Each, none, more}
-use Rattle.laws.proofs.Sums.{total}
-use Rattle.laws.proofs.Volume.{four-volume}
-use Rattle.laws.proofs.Interleaving.{Interleaving, done, left, right}
+use Rattle.laws.proofs.Basics.Lists.{Each, none, more}
+use Rattle.laws.proofs.Basics.Sums.{total}
+use Rattle.laws.proofs.Volume.Volume.{four-volume}
+use Rattle.laws.proofs.Basics.Interleaving.{Interleaving, done, left, right}
 use Rattle.bench_rules.specs.Bench.{pick, nth, parts}
 use Rattle.bench_rules.specs.History.{sum-of-D}
 use Rattle.bench_rules.proofs.GoodTets.{Sound}

@@ -12,10 +12,10 @@ use Rattle.geometry.specs.Space.{Z, four, points-in, solid, equal, zero-z}
 use Rattle.geometry.specs.declared.tetrahedron.Four.{Four}
 use Rattle.laws.specs.Laws.{rising, law-2, law-6, corners-from, is-corner, quality, entry}
 use Rattle.laws.specs.Fours.{from}
-use Rattle.laws.proofs.Conditions.{Keeps}
-use Rattle.laws.proofs.Sorted.{Well-formed, law-1-well-formed}
-use Rattle.laws.proofs.Tests.{contradiction, and-true}
-use Rattle.laws.proofs.Lists.{Each, none, more, each-append, each-of-members}
+use Rattle.laws.proofs.Choice.Conditions.{Keeps}
+use Rattle.laws.proofs.Order.Sorted.{Well-formed, law-1-well-formed}
+use Rattle.laws.proofs.Basics.Tests.{contradiction, and-true}
+use Rattle.laws.proofs.Basics.Lists.{Each, none, more, each-append, each-of-members}
 use Rattle.bench_rules.specs.Bench.{Bench, Cavity, mesh-fours, back, parts, pick, member, new-tets, cavity-job}
 use Rattle.bench_rules.proofs.Renumber.{Fits-four, D-moved, moved}
 use Rattle.bench_rules.proofs.GoodMesh.{Mesh}

@@ -9,9 +9,9 @@ use Rattle.geometry.specs.Space.{V3, four, turned, above, D, zero-z}
 use Rattle.geometry.specs.declared.tetrahedron.Four.{Four}
 use Rattle.laws.specs.Laws.{Tri, tri, faces, all-faces}
 use Rattle.laws.specs.Check.{tris-in}
-use Rattle.laws.specs.Members.{here, there}
-use Rattle.laws.proofs.Lists.{Each, none, more, each-append}
-use Rattle.laws.proofs.Triangles.{Has, Once, empty, first, Same, turn-0, turn-1, turn-2}
+use Rattle.laws.specs.inner.Members.{here, there}
+use Rattle.laws.proofs.Basics.Lists.{Each, none, more, each-append}
+use Rattle.laws.proofs.Faces.Triangles.{Has, Once, empty, first, Same, turn-0, turn-1, turn-2}
 use Rattle.bench_rules.specs.Bench.{place-in, renumbered}
 use Rattle.bench_rules.proofs.PickedNumbers.{Among, member-of}
 use Rattle.bench_rules.proofs.PlaceIn.{place-in-below, place-in-back}

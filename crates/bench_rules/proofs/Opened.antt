@@ -13,9 +13,9 @@ use Rattle.geometry.specs.Space.{points-in}
 use Rattle.geometry.specs.Range.{any-far}
 use Rattle.laws.specs.Laws.{once, all-faces}
 use Rattle.laws.specs.Check.{two-alike}
-use Rattle.laws.proofs.Tests.{and-true}
-use Rattle.laws.proofs.Conditions.{test-passed}
-use Rattle.laws.proofs.Points.{points-count}
+use Rattle.laws.proofs.Basics.Tests.{and-true}
+use Rattle.laws.proofs.Choice.Conditions.{test-passed}
+use Rattle.laws.proofs.Checker.Points.{points-count}
 use Rattle.bench_rules.specs.Bench.{Bench, Cavity, Held, no-mesh, mesh, opened, held, held-with, mesh-good, cavity-good, mesh-refusal, mesh-fours, any-tet-bad, mesh-qualities, same-numbers, points-of, tets-in}
 use Rattle.bench_rules.proofs.Picked.{same-numbers-true}
 

@@ -10,9 +10,9 @@ use lib.ListN.{length, getD}
 use Rattle.geometry.specs.Space.{V3, same-place}
 use Rattle.laws.specs.Check.{place-taken, two-alike}
 use Rattle.laws.specs.Fours.{from}
-use Rattle.laws.proofs.Tests.{contradiction, and-true, or-false, or-false-of}
-use Rattle.laws.proofs.Lists.{Each, none, more}
-use Rattle.laws.proofs.Interleaving.{Interleaving, done, left, right}
+use Rattle.laws.proofs.Basics.Tests.{contradiction, and-true, or-false, or-false-of}
+use Rattle.laws.proofs.Basics.Lists.{Each, none, more}
+use Rattle.laws.proofs.Basics.Interleaving.{Interleaving, done, left, right}
 use Rattle.bench_rules.specs.Bench.{pick, same-numbers}
 
 pub same-numbers-true : (xs ys : List ℕ) → same-numbers xs ys ≡ true → xs ≡ ys

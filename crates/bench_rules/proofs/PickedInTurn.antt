@@ -8,7 +8,7 @@ use native.Mathlib.Omega.{arith}
 use lib.Dec.{eqb}
 use lib.ListN.{length, length-append}
 use Rattle.laws.specs.Fours.{from}
-use Rattle.laws.proofs.Tests.{true-or-false}
+use Rattle.laws.proofs.Basics.Tests.{true-or-false}
 use Rattle.bench_rules.specs.Bench.{member, pick}
 use Rattle.bench_rules.proofs.PickedNumbers.{Among, member-true, from-within, picked-none}
 

@@ -9,9 +9,9 @@ use borrow.Author.Tests.{eqb-true, eqb-false, eq-eqb, ne-eqb}
 use lib.Dec.{eqb}
 use lib.ListN.{length}
 use Rattle.laws.specs.Fours.{from}
-use Rattle.laws.specs.Members.{Any, here, there}
-use Rattle.laws.proofs.Tests.{contradiction, true-or-false, or-true, or-left, or-right}
-use Rattle.laws.proofs.Lists.{any-of-nil}
+use Rattle.laws.specs.inner.Members.{Any, here, there}
+use Rattle.laws.proofs.Basics.Tests.{contradiction, true-or-false, or-true, or-left, or-right}
+use Rattle.laws.proofs.Basics.Lists.{any-of-nil}
 use Rattle.bench_rules.specs.Bench.{member, pick}
 
 -- ---- numbers that stand in a list

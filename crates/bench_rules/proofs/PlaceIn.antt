@@ -8,7 +8,7 @@ use native.Mathlib.Omega.{arith}
 use borrow.Author.Tests.{eqb-true, eqb-false, eq-eqb, ne-eqb}
 use lib.Dec.{eqb}
 use lib.ListN.{length, getD}
-use Rattle.laws.proofs.Tests.{contradiction, or-true}
+use Rattle.laws.proofs.Basics.Tests.{contradiction, or-true}
 use Rattle.bench_rules.specs.Bench.{member, place-in}
 
 in-rest : (x q : ℕ) (qs : List ℕ) → eqb q x ≡ false → member x (q ∷ qs) ≡ true → member x qs ≡ true

@@ -8,8 +8,8 @@ use borrow.Author.Tests.{ne-eqb, lt-leb}
 use lib.ListN.{length}
 use Rattle.laws.specs.Laws.{Tri, tri, same-tri, reversed}
 use Rattle.laws.specs.Check.{tris-in, tri-bad, any-tri-bad, tri-taken, tris-alike, directed, how-often, unmatched}
-use Rattle.laws.proofs.Tests.{or-false-of}
-use Rattle.laws.proofs.Lists.{Each, none, more}
+use Rattle.laws.proofs.Basics.Tests.{or-false-of}
+use Rattle.laws.proofs.Basics.Lists.{Each, none, more}
 use Rattle.bench_rules.specs.Bench.{member, place-in, renumbered}
 use Rattle.bench_rules.proofs.PlaceIn.{place-in-below, places-test}
 

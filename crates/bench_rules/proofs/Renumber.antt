@@ -8,12 +8,12 @@ use Rattle.geometry.specs.Space.{Z, V3, point, four, D, turned, above, zero-z}
 use Rattle.geometry.specs.declared.tetrahedron.Four.{Four}
 use Rattle.laws.specs.Laws.{Job, Tri, tri, all-faces, law-4}
 use Rattle.geometry.specs.Vectors.{value}
-use Rattle.laws.proofs.Tests.{contradiction}
-use Rattle.laws.proofs.Lists.{Each, none, more, each-map}
-use Rattle.laws.proofs.Sums.{total}
-use Rattle.laws.proofs.Triangles.{Once}
-use Rattle.laws.proofs.Volume.{triangle-volume, four-volume, conforming-volume, volume}
-use Rattle.laws.proofs.Conforming.{Conforming}
+use Rattle.laws.proofs.Basics.Tests.{contradiction}
+use Rattle.laws.proofs.Basics.Lists.{Each, none, more, each-map}
+use Rattle.laws.proofs.Basics.Sums.{total}
+use Rattle.laws.proofs.Faces.Triangles.{Once}
+use Rattle.laws.proofs.Volume.Volume.{triangle-volume, four-volume, conforming-volume, volume}
+use Rattle.laws.proofs.Faces.Conforming.{Conforming}
 
 pub total-map : {A B : Type 0} (u : A → ℤ) (v : B → ℤ) (h : A → B) {xs : List A} → Each (λ x. u x ≡ v (h x)) xs → total u xs ≡ total v (map h xs)
 unfolding total

@@ -8,10 +8,10 @@ use borrow.Author.Tests.{eq-eqb, eqb-true, not-false}
 use lib.Dec.{eqb}
 use Rattle.laws.specs.Laws.{Tri, Edge}
 use Rattle.laws.specs.Check.{directed, how-often, unmatched}
-use Rattle.laws.proofs.Tests.{and-true, and-of, or-false}
-use Rattle.laws.specs.Members.{Any, here, there}
-use Rattle.laws.proofs.Lists.{any-of-nil}
-use Rattle.laws.proofs.Triangles.{turn, Same, turn-0, turn-1, turn-2}
+use Rattle.laws.proofs.Basics.Tests.{and-true, and-of, or-false}
+use Rattle.laws.specs.inner.Members.{Any, here, there}
+use Rattle.laws.proofs.Basics.Lists.{any-of-nil}
+use Rattle.laws.proofs.Faces.Triangles.{turn, Same, turn-0, turn-1, turn-2}
 use Rattle.bench_rules.proofs.RimTriangles.{alike}
 
 -- ---- directed edges of a triangle

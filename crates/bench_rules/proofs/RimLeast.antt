@@ -8,10 +8,10 @@ use native.Mathlib.Omega.{arith}
 use lib.ListN.{length}
 use Rattle.laws.specs.Laws.{Tri}
 use Rattle.laws.specs.Check.{any-tri-bad, tris-alike, directed, unmatched}
-use Rattle.laws.specs.Members.{Any, here}
-use Rattle.laws.proofs.Lists.{Each, more, find, any-of-member}
-use Rattle.laws.proofs.Triangles.{back, Same, turn-1, turn-2, same-refl, same-sym, same-trans, Has, has-same}
-use Rattle.laws.proofs.Cancellation.{Removal, now, later, remove, removal-cases}
+use Rattle.laws.specs.inner.Members.{Any, here}
+use Rattle.laws.proofs.Basics.Lists.{Each, more, find, any-of-member}
+use Rattle.laws.proofs.Faces.Triangles.{back, Same, turn-1, turn-2, same-refl, same-sym, same-trans, Has, has-same}
+use Rattle.laws.proofs.Volume.Cancellation.{Removal, now, later, remove, removal-cases}
 use Rattle.bench_rules.proofs.RimTriangles.{Corners, each-corners, no-back}
 use Rattle.bench_rules.proofs.RimEdges.{Way, way-a, way-b, way-c, way-same, two-ways, way-back}
 

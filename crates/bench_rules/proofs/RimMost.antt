@@ -13,18 +13,18 @@ use Rattle.geometry.specs.Space.{V3, solid}
 use Rattle.geometry.specs.declared.tetrahedron.Four.{Four}
 use Rattle.laws.specs.Laws.{Tri, rising, choose, all-faces}
 use Rattle.laws.specs.Check.{any-tri-bad, tri-taken, tris-alike}
-use Rattle.laws.proofs.Tests.{contradiction, true-or-false, and-of, or-false}
-use Rattle.laws.specs.Members.{here, there, In}
-use Rattle.laws.proofs.Lists.{Each, none, more, any-of-nil, each-map}
-use Rattle.laws.proofs.Sums.{total, zero-total-empty}
-use Rattle.laws.proofs.Triangles.{back, Same, turn-0, turn-1, turn-2, same-sym, same-trans, same-back, Has, Once}
-use Rattle.laws.proofs.Conforming.{tri-taken-of, Conforming}
-use Rattle.laws.proofs.Volume.{triangle-volume, four-volume, conforming-volume}
+use Rattle.laws.proofs.Basics.Tests.{contradiction, true-or-false, and-of, or-false}
+use Rattle.laws.specs.inner.Members.{here, there, In}
+use Rattle.laws.proofs.Basics.Lists.{Each, none, more, any-of-nil, each-map}
+use Rattle.laws.proofs.Basics.Sums.{total, zero-total-empty}
+use Rattle.laws.proofs.Faces.Triangles.{back, Same, turn-0, turn-1, turn-2, same-sym, same-trans, same-back, Has, Once}
+use Rattle.laws.proofs.Faces.Conforming.{tri-taken-of, Conforming}
+use Rattle.laws.proofs.Volume.Volume.{triangle-volume, four-volume, conforming-volume}
 use Rattle.geometry.proofs.Volume.{turned-positive}
-use Rattle.laws.proofs.Sorted.{Well-formed, sorted-law-1}
-use Rattle.laws.proofs.Binomials.{choose-monotone}
-use Rattle.laws.proofs.Places.{first-point-place, count-under}
-use Rattle.laws.proofs.Sort.{Distinct, nil, new, sort, sort-each, sort-length, sort-sorted}
+use Rattle.laws.proofs.Order.Sorted.{Well-formed, sorted-law-1}
+use Rattle.laws.proofs.Order.Binomials.{choose-monotone}
+use Rattle.laws.proofs.Order.Places.{first-point-place, count-under}
+use Rattle.laws.proofs.Order.Sort.{Distinct, nil, new, sort, sort-each, sort-length, sort-sorted}
 use Rattle.bench_rules.proofs.RimTriangles.{Corners, each-corners, is-taken, alike}
 
 -- ---- a triangle's points in order

@@ -7,10 +7,10 @@ use borrow.Author.Tests.{eqb-false, leb-false}
 use lib.Dec.{eqb, leb}
 use Rattle.laws.specs.Laws.{Tri, tri, same-tri, reversed}
 use Rattle.laws.specs.Check.{tri-bad, any-tri-bad, tri-taken, tris-alike}
-use Rattle.laws.proofs.Tests.{contradiction, or-false, or-left, or-right}
-use Rattle.laws.specs.Members.{here, there}
-use Rattle.laws.proofs.Lists.{Each, none, more}
-use Rattle.laws.proofs.Triangles.{back, Same, turn-0, turn-1, turn-2, same-sym, same-trans, same-back, same-tri-of, Has, has-same}
+use Rattle.laws.proofs.Basics.Tests.{contradiction, or-false, or-left, or-right}
+use Rattle.laws.specs.inner.Members.{here, there}
+use Rattle.laws.proofs.Basics.Lists.{Each, none, more}
+use Rattle.laws.proofs.Faces.Triangles.{back, Same, turn-0, turn-1, turn-2, same-sym, same-trans, same-back, same-tri-of, Has, has-same}
 
 -- ---- triangles of three points
 pub record Corners (n : ℕ) (t : Tri) : Type 0 where

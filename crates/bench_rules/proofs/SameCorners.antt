@@ -10,9 +10,9 @@ use Rattle.geometry.specs.declared.tetrahedron.Four.{Four}
 use Rattle.geometry.proofs.Ring.{ring, var, _⊕_}
 use Rattle.geometry.proofs.Volume.{vol, det-by-faces, vol-turned, vol-back, Positive}
 use Rattle.laws.specs.Laws.{Tri, tri, faces}
-use Rattle.laws.specs.Members.{here, there}
-use Rattle.laws.proofs.Lists.{any-of-nil}
-use Rattle.laws.proofs.Triangles.{Has, turn-0, turn-1, turn-2, same-trans}
+use Rattle.laws.specs.inner.Members.{here, there}
+use Rattle.laws.proofs.Basics.Lists.{any-of-nil}
+use Rattle.laws.proofs.Faces.Triangles.{Has, turn-0, turn-1, turn-2, same-trans}
 use Rattle.bench_rules.proofs.JoinedPoint.{Corner, at-a, at-b, at-c, at-d}
 
 -- four distinct corners

@@ -8,8 +8,8 @@ use lib.ListN.{length, getD, take, drop}
 use lib.IntN.{ℤ}
 use Rattle.geometry.specs.Space.{V3, point, points-in}
 use Rattle.laws.specs.Fours.{from}
-use Rattle.laws.specs.Members.{here, there}
-use Rattle.laws.proofs.Lists.{Each, none, more}
+use Rattle.laws.specs.inner.Members.{here, there}
+use Rattle.laws.proofs.Basics.Lists.{Each, none, more}
 use Rattle.bench_rules.specs.Bench.{pick, coordinates}
 use Rattle.bench_rules.proofs.PickedNumbers.{Among, picked-so, from-within}
 

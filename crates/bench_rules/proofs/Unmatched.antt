@@ -9,12 +9,12 @@ use borrow.Author.Tests.{eqb-false, not-false}
 use Rattle.geometry.specs.Space.{V3, four, D, solid, turned, above, zero-z}
 use Rattle.geometry.specs.declared.tetrahedron.Four.{Four}
 use Rattle.laws.specs.Laws.{Tri, tri, reversed, has, faces, all-faces}
-use Rattle.laws.specs.Members.{here, there}
-use Rattle.laws.proofs.Tests.{contradiction, and-true, or-false}
-use Rattle.laws.proofs.Lists.{Each, none, more, any-of-nil, each-append}
-use Rattle.laws.proofs.Triangles.{back, reversed-back, same-back, Has, has-same-test}
-use Rattle.laws.proofs.Interleaving.{done, left, right, interleave-left}
-use Rattle.laws.proofs.ProperFaces.{Distinct-corners, turned-distinct-corners}
+use Rattle.laws.specs.inner.Members.{here, there}
+use Rattle.laws.proofs.Basics.Tests.{contradiction, and-true, or-false}
+use Rattle.laws.proofs.Basics.Lists.{Each, none, more, any-of-nil, each-append}
+use Rattle.laws.proofs.Faces.Triangles.{back, reversed-back, same-back, Has, has-same-test}
+use Rattle.laws.proofs.Basics.Interleaving.{done, left, right, interleave-left}
+use Rattle.laws.proofs.Faces.ProperFaces.{Distinct-corners, turned-distinct-corners}
 use Rattle.bench_rules.specs.Bench.{unmatched-in, member, corners-in, tet-bad, any-tet-bad}
 use Rattle.bench_rules.proofs.Cavity.{Rim}
 use Rattle.bench_rules.proofs.Picked.{Part}

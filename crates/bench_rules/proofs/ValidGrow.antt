@@ -12,9 +12,9 @@ use lib.ListN.{length}
 use Rattle.geometry.specs.declared.tetrahedron.Four.{Four}
 use Rattle.laws.specs.Laws.{corner-of}
 use Rattle.laws.specs.Fours.{from}
-use Rattle.laws.specs.Members.{here}
-use Rattle.laws.proofs.Tests.{or-true, or-left, or-right}
-use Rattle.laws.proofs.Lists.{find, any-of-member}
+use Rattle.laws.specs.inner.Members.{here}
+use Rattle.laws.proofs.Basics.Tests.{or-true, or-left, or-right}
+use Rattle.laws.proofs.Basics.Lists.{find, any-of-member}
 use Rattle.bench_rules.specs.Bench.{Bench, Cavity, Held, no-mesh, mesh, opened, held, done, with-cavity, spanned, mesh-fours, nth, member, pick, points-of, corner-of-any, corners-in, tets-in, around, joins, grow, grow-as, grow-by}
 use Rattle.bench_rules.proofs.GoodMesh.{Mesh, held-some, held-opened}
 use Rattle.bench_rules.proofs.ValidLoad.{Stays, stays-by-test, refused-stays}

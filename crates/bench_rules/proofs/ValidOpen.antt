@@ -14,11 +14,11 @@ use Rattle.geometry.specs.declared.tetrahedron.Four.{Four}
 use Rattle.geometry.proofs.Volume.{turned-positive}
 use Rattle.laws.specs.Laws.{Tri, corner-of, faces, all-faces}
 use Rattle.laws.specs.Fours.{from}
-use Rattle.laws.specs.Members.{Any, here, there}
-use Rattle.laws.proofs.Points.{points-count}
-use Rattle.laws.proofs.Tests.{true-or-false, or-left}
-use Rattle.laws.proofs.Lists.{any-of-nil}
-use Rattle.laws.proofs.Triangles.{Has, once-true}
+use Rattle.laws.specs.inner.Members.{Any, here, there}
+use Rattle.laws.proofs.Checker.Points.{points-count}
+use Rattle.laws.proofs.Basics.Tests.{true-or-false, or-left}
+use Rattle.laws.proofs.Basics.Lists.{any-of-nil}
+use Rattle.laws.proofs.Faces.Triangles.{Has, once-true}
 use Rattle.bench_rules.specs.Bench.{Bench, Cavity, Held, no-mesh, mesh, opened, held, done, with-cavity, mesh-fours, nth, points-of, corner-of-any, corners-in, tets-in, open-at, open-as}
 use Rattle.bench_rules.proofs.GoodMesh.{Mesh, held-some, held-true, is-held}
 use Rattle.bench_rules.proofs.ValidLoad.{Stays, stays-by-test, refused-stays}

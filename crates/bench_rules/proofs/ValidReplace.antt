@@ -13,10 +13,10 @@ use Rattle.geometry.specs.Measure.{four-quality}
 use Rattle.geometry.specs.declared.tetrahedron.Four.{Four}
 use Rattle.laws.specs.Laws.{bytes, fours-in, worst, once, all-faces}
 use Rattle.laws.specs.Choice.{Choice}
-use Rattle.laws.proofs.Bytes.{bytes-read-back, length-bytes}
-use Rattle.laws.proofs.Conditions.{keeps}
-use Rattle.laws.proofs.Tests.{and-of}
-use Rattle.laws.proofs.Lists.{Each, none}
+use Rattle.laws.proofs.Order.Bytes.{bytes-read-back, length-bytes}
+use Rattle.laws.proofs.Choice.Conditions.{keeps}
+use Rattle.laws.proofs.Basics.Tests.{and-of}
+use Rattle.laws.proofs.Basics.Lists.{Each, none}
 use Rattle.bench_rules.specs.Bench.{Bench, Cavity, Done, Held, no-mesh, mesh, opened, held, done, mesh-fours, mesh-qualities, any-tet-bad, new-tets, put-in, replace-by, cavity-worst, cavity-job, Replaced, Replaced-as}
 use Rattle.bench_rules.proofs.GoodMesh.{Mesh, held-none, held-opened}
 use Rattle.bench_rules.proofs.ValidLoad.{Stays, stays-by-test, refused-stays}

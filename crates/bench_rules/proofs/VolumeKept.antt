@@ -14,14 +14,14 @@ use Rattle.laws.specs.Laws.{Tri, tri, worst, once, all-faces}
 use Rattle.laws.specs.Check.{job}
 use Rattle.laws.specs.Choice.{Choice}
 use Rattle.laws.specs.Fours.{from}
-use Rattle.laws.proofs.Conditions.{Keeps, keeps}
-use Rattle.laws.proofs.Sorted.{law-1-well-formed}
-use Rattle.laws.proofs.Lists.{Each, none, more, each-map, each-of-members}
-use Rattle.laws.proofs.Sums.{total, total-append, total-interleave}
-use Rattle.laws.proofs.Interleaving.{Interleaving}
-use Rattle.laws.proofs.Triangles.{Once, once-true, once-interleave}
-use Rattle.laws.proofs.Owners.{faces-interleave}
-use Rattle.laws.proofs.Volume.{four-volume}
+use Rattle.laws.proofs.Choice.Conditions.{Keeps, keeps}
+use Rattle.laws.proofs.Order.Sorted.{law-1-well-formed}
+use Rattle.laws.proofs.Basics.Lists.{Each, none, more, each-map, each-of-members}
+use Rattle.laws.proofs.Basics.Sums.{total, total-append, total-interleave}
+use Rattle.laws.proofs.Basics.Interleaving.{Interleaving}
+use Rattle.laws.proofs.Faces.Triangles.{Once, once-true, once-interleave}
+use Rattle.laws.proofs.Faces.Owners.{faces-interleave}
+use Rattle.laws.proofs.Volume.Volume.{four-volume}
 use Rattle.bench_rules.specs.Bench.{Bench, Cavity, Done, Held, no-mesh, mesh, opened, held, refused, done, mesh-fours, back, parts, pick, member, nth, tets-in, corners-in, new-tets, put-in, replace-by, cavity-triangles, cavity-worst, cavity-job, Replaced, Replaced-as}
 use Rattle.bench_rules.specs.History.{sum-of-D, mesh-D, Volume-kept}
 use Rattle.bench_rules.proofs.Cavity.{rim-closed}

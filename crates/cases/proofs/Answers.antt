@@ -8,7 +8,7 @@ use Rattle.geometry.specs.Measure.{number-of, millionths-of, sizes, Measures}
 use Rattle.geometry.specs.declared.measure.Measured.{Measured}
 use Rattle.laws.specs.Lists.{Lists, job-of}
 use Rattle.laws.specs.Choice.{Choice}
-use Rattle.laws.proofs.Tests.{contradiction}
+use Rattle.laws.proofs.Basics.Tests.{contradiction}
 use Rattle.search.specs.Entry.{says}
 use Rattle.cases.specs.Cases.{Tetrahedron, fours-of, solid-measure, Case, found, tied, nothing, refused, breaks, measures, Found-best, None-lawful, Measures-as, Holds, Cases-hold}
 use Rattle.cases.specs.Answers.{Answers-found, Answers-nothing, Answers-breaks, Answers-measures, Answers, Entries-answer}

@@ -11,8 +11,8 @@ use Rattle.geometry.specs.Measure.{D-of, S-of, double, shape-number, shape-of, 
 use Rattle.geometry.specs.declared.tetrahedron.Four.{Four}
 use Rattle.laws.specs.Laws.{Job, lawful, worst, list-before}
 use Rattle.laws.specs.Lists.{Lists, job-of, refusal-of}
-use Rattle.laws.specs.Judge.{judged}
-use Rattle.laws.proofs.Tests.{and-true}
+use Rattle.judge.specs.Judge.{judged}
+use Rattle.laws.proofs.Basics.Tests.{and-true}
 use Rattle.cases.specs.Cases.{Tetrahedron, tetrahedron-of, fours-of, solid-measure, Case, found, tied, nothing, refused, breaks, measures, Found-best, Tied, Measures-as, Holds, cases, Cases-hold}
 use Rattle.cases.proofs.Equality.{same-list, same-list-true, same-tetrahedron, same-tetrahedron-true}
 use Rattle.cases.proofs.Every.{every, every-at}

@@ -11,7 +11,7 @@ use borrow.Author.Tests.{ltb-true, eqb-true, not-true}
 use Rattle.geometry.specs.declared.tetrahedron.Four.{Four}
 use Rattle.laws.specs.Laws.{Job, lawful, worst, list-before}
 use Rattle.laws.specs.Choice.{Choice}
-use Rattle.laws.proofs.Tests.{contradiction, and-true, or-true, true-or-false}
+use Rattle.laws.proofs.Basics.Tests.{contradiction, and-true, or-true, true-or-false}
 use Rattle.cases.proofs.Equality.{same-list, same-list-true, same-four, same-four-true}
 use Rattle.cases.proofs.Every.{every-list, every-lawful}
 

@@ -7,7 +7,7 @@ use Rattle.laws.specs.Laws.{tri, choose, before-first, place, entry, quality, r
 use Rattle.laws.specs.Fours.{from, rest, with-each, all-fours}
 use Rattle.laws.specs.Check.{place-taken, two-alike, tris-in, edges-in, tri-bad, any-tri-bad, tri-taken, tris-alike, directed, how-often, unmatched, edge-bad, entry-bad, any-entry-bad, unmeasured, over, solid-unmeasured, job, job-refusal}
 use Rattle.laws.specs.Lists.{job-of, refusal-of}
-use Rattle.laws.specs.Judge.{judged}
+use Rattle.judge.specs.Judge.{judged}
 use Rattle.text.specs.Print.{count-in, boundary-faces}
 use Rattle.cases.specs.Cases.{tetrahedron-of, fours-of}
 

@@ -6,7 +6,7 @@ use Prim.Native.Nat.{ℕ}
 use lib.Dec.{eqb}
 use borrow.Author.Tests.{eqb-true}
 use Rattle.geometry.specs.declared.tetrahedron.Four.{Four}
-use Rattle.laws.proofs.Tests.{contradiction, and-true}
+use Rattle.laws.proofs.Basics.Tests.{contradiction, and-true}
 use Rattle.cases.specs.Cases.{Tetrahedron}
 
 abbrev pub same-list : {A : Type 0} → (A → A → Bool) → (xs ys : List A) → Bool

@@ -6,11 +6,11 @@ use lib.ListN.{length}
 use Rattle.geometry.specs.declared.tetrahedron.Four.{Four}
 use Rattle.laws.specs.Laws.{Job, lawful}
 use Rattle.laws.specs.Fours.{all-fours}
-use Rattle.laws.specs.Members.{Any, here, there}
-use Rattle.laws.proofs.Tests.{and-true}
-use Rattle.laws.proofs.Lists.{any-of-nil}
-use Rattle.laws.proofs.Conditions.{keeps}
-use Rattle.laws.proofs.Sublists.{sublists, law-1-sublist}
+use Rattle.laws.specs.inner.Members.{Any, here, there}
+use Rattle.laws.proofs.Basics.Tests.{and-true}
+use Rattle.laws.proofs.Basics.Lists.{any-of-nil}
+use Rattle.laws.proofs.Choice.Conditions.{keeps}
+use Rattle.laws.proofs.Order.Sublists.{sublists, law-1-sublist}
 
 abbrev pub every : {A : Type 0} → (A → Bool) → List A → Bool
 every t [] = true

@@ -9,11 +9,11 @@ use lib.ListN.{length}
 use borrow.Author.Tests.{eqb-true, eq-eqb, ne-eqb, le-ltb}
 use Rattle.geometry.specs.declared.tetrahedron.Four.{Four}
 use Rattle.laws.specs.Laws.{Job, broken, lawful, worst, bytes, fours-in}
-use Rattle.laws.specs.Judge.{judged, Judge-as, Judge-says}
+use Rattle.judge.specs.Judge.{judged, Judge-as, Judge-says}
 use Rattle.laws.specs.Lists.{Lists, job-of, refusal-of}
-use Rattle.laws.specs.declared.judge.Verdict.{Verdict}
-use Rattle.laws.proofs.Bytes.{bytes-read-back, length-bytes}
-use Rattle.laws.proofs.Judging.{whole-fours}
+use Rattle.judge.specs.declared.judge.Verdict.{Verdict}
+use Rattle.laws.proofs.Order.Bytes.{bytes-read-back, length-bytes}
+use Rattle.judge.proofs.Judging.{whole-fours}
 use Rattle.search.specs.Entry.{or-else, says, Searched, Search-as, Search-says}
 use Rattle.search.specs.declared.search.Found.{Found}
 use Rattle.cases.specs.Answers.{Search-of, Judge-of, verdict, Judged-worth}

@@ -7,10 +7,10 @@ use Rattle.geometry.specs.Measure.{double, number-of, millionths-of, Measures}
 use Rattle.geometry.specs.declared.tetrahedron.Four.{Four}
 use Rattle.geometry.specs.declared.measure.Measured.{Measured}
 use Rattle.laws.specs.Laws.{bytes}
-use Rattle.laws.specs.Judge.{Judge-says}
+use Rattle.judge.specs.Judge.{Judge-says}
 use Rattle.laws.specs.Lists.{Lists, refusal-of}
-use Rattle.laws.specs.Members.{Any}
-use Rattle.laws.specs.declared.judge.Verdict.{Verdict}
+use Rattle.laws.specs.inner.Members.{Any}
+use Rattle.judge.specs.declared.judge.Verdict.{Verdict}
 use Rattle.search.specs.Entry.{in-front, says, Search-says}
 use Rattle.search.specs.declared.search.Found.{Found}
 use Rattle.cases.specs.Cases.{Tetrahedron, fours-of, solid-measure, Case, found, tied, nothing, refused, breaks, measures, cases}

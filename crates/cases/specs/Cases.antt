@@ -12,9 +12,9 @@ use Rattle.geometry.specs.declared.measure.Measured.{Measured}
 use Rattle.geometry.specs.declared.measure.Measurement.the-variants.{Shape}
 use Rattle.laws.specs.Laws.{Job, entry, quality, lawful, worst, list-before}
 use Rattle.laws.specs.Choice.{Choice}
-use Rattle.laws.specs.Judge.{judged}
+use Rattle.judge.specs.Judge.{judged}
 use Rattle.laws.specs.Lists.{Lists, job-of, refusal-of}
-use Rattle.laws.specs.Members.{Any}
+use Rattle.laws.specs.inner.Members.{Any}
 use Rattle.text.specs.Print.{boundary-faces}
 
 -- ---- a tetrahedron of a filling: its D, its quality, and how many of its outward faces are boundary triangles

@@ -2,13 +2,13 @@
 use crate::tally::Tally;
 use crate::trial::is_answer;
 use crate::trial::trial;
+use checker::check::check_job;
 use enumerator::fours::after;
 use enumerator::fours::first;
 use enumerator::fours::how_many;
 use enumerator::fours::is_listed;
 use enumerator::read::put_number;
 use enumerator::read::upto;
-use laws::check::check_job;
 use random_jobs::boundary::put_boundary;
 use random_jobs::damage::NOTHING;
 

@@ -15,8 +15,8 @@ use enumerator::read::up;
 use enumerator::read::upto;
 use enumerator::rules::lowest_broken;
 use enumerator::rules::worst;
-use laws::judge::Verdict;
-use laws::judge::judge;
+use judge::judge::Verdict;
+use judge::judge::judge;
 use random_jobs::random::index;
 use random_jobs::random::nth;
 

@@ -1,6 +1,7 @@
 // One job: the checker against its numbers, the search against the enumerator, the judge against the laws.
 use crate::lists::with_lists;
 use crate::tally::Tally;
+use checker::check::check_job;
 use enumerator::checker::refusal;
 use enumerator::enumerate::Best;
 use enumerator::enumerate::MOST;
@@ -12,8 +13,7 @@ use enumerator::read::byte_at;
 use enumerator::read::put;
 use enumerator::read::start;
 use enumerator::read::upto;
-use laws::check::check_job;
-use laws::judge::judge;
+use judge::judge::judge;
 use lines::tally::next;
 use random_jobs::points::has_void;
 use search::search::search;

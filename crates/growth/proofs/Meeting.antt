@@ -9,7 +9,7 @@ use lib.ListN.{length, getD, drop}
 use Rattle.geometry.specs.declared.tetrahedron.Four.{Four}
 use Rattle.laws.specs.Laws.{corner-of}
 use Rattle.laws.specs.Fours.{from}
-use Rattle.laws.specs.ListedFours.{four-at}
+use Rattle.laws.specs.inner.ListedFours.{four-at}
 use Rattle.bench_rules.specs.Bench.{mesh-fours, member, nth, pick, sum-of}
 use Rattle.bench_rules.specs.Marks.{marked}
 use Rattle.bench_rules.specs.Sound.{Marks-within}

@@ -7,7 +7,7 @@ use lib.Dec.{eqb}
 use lib.ListN.{length}
 use Rattle.geometry.specs.declared.tetrahedron.Four.{Four}
 use Rattle.laws.specs.Laws.{corner-of}
-use Rattle.laws.specs.ListedFours.{four-at}
+use Rattle.laws.specs.inner.ListedFours.{four-at}
 use Rattle.bench_rules.specs.Bench.{mesh-fours, member, nth, corner-of-any, corners-in, touches, around, tets-in}
 use Rattle.bench_rules.specs.Marks.{marked, marks}
 use Rattle.bench_rules.proofs.MeshFours.{mesh-fours-length, mesh-nth}

@@ -9,8 +9,8 @@ use lib.Dec.{leb, eqb}
 use lib.ListN.{length, drop}
 use Rattle.geometry.specs.declared.tetrahedron.Four.{Four}
 use Rattle.laws.specs.Laws.{corner-of}
-use Rattle.laws.specs.ListedFours.{four-at}
-use Rattle.laws.proofs.Scan.{Step}
+use Rattle.laws.specs.inner.ListedFours.{four-at}
+use Rattle.laws.proofs.Basics.Scan.{Step}
 use Rattle.bench_rules.specs.Bench.{mesh-fours, member, nth, common, touches}
 use Rattle.bench_rules.specs.Marks.{marked}
 use Rattle.bench_rules.specs.Sound.{Marks-within}

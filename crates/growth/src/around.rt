@@ -1,13 +1,13 @@
 // The tetrahedra outside the cavity that share a face with one in it. Assumes nothing.
 use geometry::tetrahedron::Four;
-use laws::fours::four_at;
+use judge::fours::four_at;
 ghost use mathlib.Core.Path.{_≡_};
 ghost use mathlib.Core.Bool.{_&&_, not, cond};
 ghost use Prim.Native.Nat.{_/_, _≤_, _<_};
 ghost use lib.Dec.{leb, eqb};
 ghost use lib.ListN.{length};
 ghost use Rattle.laws.specs.Laws.{corner-of};
-ghost use Rattle.laws.specs.ListedFours.{four-at};
+ghost use Rattle.laws.specs.inner.ListedFours.{four-at};
 ghost use Rattle.bench_rules.specs.Bench.{mesh-fours, member, common, touches, around, nth};
 ghost use Rattle.bench_rules.specs.Marks.{marked, marks};
 ghost use Rattle.bench_rules.specs.Sound.{Marks-within};

@@ -1,14 +1,14 @@
 // The corner that joins: the one met by most of A, then the one with the lowest sum of qualities, then the lowest number. Assumes nothing.
 use crate::around::has_corner;
 use crate::around::is_marked;
-use laws::fours::four_at;
+use judge::fours::four_at;
 ghost use mathlib.Core.Path.{_≡_};
 ghost use mathlib.Core.Bool.{_&&_};
 ghost use Prim.Native.Nat.{_/_, _≤_, _<_};
 ghost use lib.ListN.{length};
 ghost use Rattle.laws.specs.Laws.{corner-of};
 ghost use Rattle.laws.specs.Fours.{from};
-ghost use Rattle.laws.specs.ListedFours.{four-at};
+ghost use Rattle.laws.specs.inner.ListedFours.{four-at};
 ghost use Rattle.bench_rules.specs.Bench.{mesh-fours, member};
 ghost use Rattle.bench_rules.specs.Marks.{marked};
 ghost use Rattle.bench_rules.specs.Sound.{Growing};

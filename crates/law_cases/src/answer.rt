@@ -1,8 +1,8 @@
 // What the checker and the judge answer for a job and a list that stand in lines. A function for each list of numbers: it reads that list
 // and hands it on with those before.
-use laws::check::check_job;
-use laws::judge::Verdict;
-use laws::judge::judge;
+use checker::check::check_job;
+use judge::judge::Verdict;
+use judge::judge::judge;
 use lines::list::bytes;
 use lines::list::integers;
 use lines::text::after;

@@ -1,6 +1,6 @@
 // What a line says that the answer is.
 use check::same;
-use laws::judge::Verdict;
+use judge::judge::Verdict;
 use lines::number::Number;
 use lines::number::decimal;
 use lines::text::after;

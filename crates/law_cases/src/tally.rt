@@ -5,7 +5,7 @@ use crate::expected::agrees;
 use crate::expected::number_of;
 use crate::expected::result_of;
 use check::same;
-use laws::judge::Verdict;
+use judge::judge::Verdict;
 use lines::tally::next;
 use lines::tally::print;
 use lines::tally::print_count;

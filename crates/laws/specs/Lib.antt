@@ -1,13 +1,7 @@
 pub mod Laws
+pub mod Lists
 pub mod Check
-pub mod Listed
-pub mod Unmeasured
-pub mod ListedFours
-pub mod FaceCodes
-pub mod FaceFlags
-pub mod Judge
-pub mod Members
+pub mod Choice
 pub mod Fours
 pub mod Promise
-pub mod Lists
-pub mod Choice
+pub mod inner

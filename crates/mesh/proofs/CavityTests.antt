@@ -10,7 +10,7 @@ use lib.Dec.{ltb, leb}
 use lib.ListN.{length}
 use Rattle.geometry.specs.declared.tetrahedron.Four.{Four}
 use Rattle.laws.specs.Fours.{from}
-use Rattle.laws.proofs.Passes.{Test}
+use Rattle.laws.proofs.Basics.Passes.{Test}
 use Rattle.bench_rules.specs.Bench.{mesh-fours, member, same-numbers, nth, corner-of-any, corners-in, points-of, tets-in}
 use Rattle.bench_rules.specs.Marks.{marked}
 use Rattle.bench_rules.specs.Sound.{Marks-within}

@@ -9,9 +9,9 @@ use lib.IntN.{ℤ}
 use Rattle.geometry.specs.Space.{V3, points-in, turned}
 use Rattle.geometry.specs.declared.tetrahedron.Four.{Four}
 use Rattle.laws.specs.Laws.{Tri, tri, faces, all-faces, once, fours-in}
-use Rattle.laws.specs.ListedFours.{four-at, Below}
-use Rattle.laws.proofs.Lists.{Each, none, more, each-append}
-use Rattle.laws.proofs.ProperFaces.{Distinct-corners, turned-distinct-corners, turned-below}
+use Rattle.laws.specs.inner.ListedFours.{four-at, Below}
+use Rattle.laws.proofs.Basics.Lists.{Each, none, more, each-append}
+use Rattle.laws.proofs.Faces.ProperFaces.{Distinct-corners, turned-distinct-corners, turned-below}
 use Rattle.bench_rules.specs.Bench.{mesh-fours}
 use Rattle.bench_rules.specs.Marks.{entries}
 use Rattle.bench_rules.specs.Sound.{Sound-mesh}

@@ -10,8 +10,8 @@ use borrow.Author.Tests.{eq-eqb, ne-eqb}
 use lib.Dec.{eqb}
 use lib.ListN.{length}
 use lib.IntN.{ℤ}
-use Rattle.laws.proofs.Points.{points-count}
-use Rattle.laws.proofs.Tests.{and-of}
+use Rattle.laws.proofs.Checker.Points.{points-count}
+use Rattle.laws.proofs.Basics.Tests.{and-of}
 use Rattle.bench_rules.specs.Bench.{Bench, no-mesh, opened, held, held-with, mesh-good, cavity-good, mesh-refusal, mesh-qualities, mesh-fours, same-numbers}
 use Rattle.bench_rules.specs.Marks.{marked}
 use Rattle.bench_rules.specs.Sound.{Sound-mesh, marked-cavity, cavity-by, bench-of}

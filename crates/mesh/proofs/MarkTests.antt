@@ -9,8 +9,8 @@ use lib.Dec.{ltb, eqb}
 use lib.ListN.{length, getD, drop, List·getD-eq-default}
 use Rattle.geometry.specs.declared.tetrahedron.Four.{Four}
 use Rattle.laws.specs.Laws.{corner-of}
-use Rattle.laws.specs.ListedFours.{four-at}
-use Rattle.laws.proofs.Scan.{Step}
+use Rattle.laws.specs.inner.ListedFours.{four-at}
+use Rattle.laws.proofs.Basics.Scan.{Step}
 use Rattle.bench_rules.specs.Bench.{mesh-fours, member, nth, corner-of-any, corners-in}
 use Rattle.bench_rules.specs.Marks.{marked}
 use Rattle.bench_rules.specs.Sound.{Marks-within}

@@ -9,7 +9,7 @@ use borrow.Author.Tests.{lt-ltb, le-ltb, eq-eqb, ne-eqb}
 use lib.Dec.{ltb}
 use lib.ListN.{length}
 use Rattle.laws.specs.Fours.{from}
-use Rattle.laws.proofs.Passes.{Test}
+use Rattle.laws.proofs.Basics.Passes.{Test}
 use Rattle.bench_rules.specs.Bench.{member, pick, same-numbers}
 use Rattle.bench_rules.specs.Marks.{marked}
 use Rattle.bench_rules.proofs.PickedNumbers.{picked-none, from-within}

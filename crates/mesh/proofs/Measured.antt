@@ -15,9 +15,9 @@ use Rattle.geometry.specs.declared.measure.Measurement.{Measurement}
 use Rattle.geometry.specs.declared.measure.Measured.{Measured}
 use Rattle.geometry.specs.Measure.{is-flat, shape-of, measured-when, measured-four, millionths, millionths-of, four-quality}
 use Rattle.laws.specs.Laws.{fours-in}
-use Rattle.laws.specs.ListedFours.{four-at, fours-from}
-use Rattle.laws.proofs.Passes.{Test}
-use Rattle.laws.proofs.FourList.{fours-more, fours-done}
+use Rattle.laws.specs.inner.ListedFours.{four-at, fours-from}
+use Rattle.laws.proofs.Basics.Passes.{Test}
+use Rattle.laws.proofs.Judge.FourList.{fours-more, fours-done}
 use Rattle.bench_rules.specs.Bench.{mesh-fours, mesh-qualities, same-numbers}
 use Rattle.bench_rules.specs.Marks.{entries}
 use Rattle.bench_rules.proofs.Picked.{same-numbers-true}

@@ -14,12 +14,12 @@ use Rattle.geometry.specs.Range.{any-far, Present}
 use Rattle.geometry.specs.declared.tetrahedron.Four.{Four}
 use Rattle.laws.specs.Laws.{all-faces, once}
 use Rattle.laws.specs.Check.{two-alike}
-use Rattle.laws.specs.ListedFours.{four-at, fours-from}
-use Rattle.laws.proofs.Points.{points-count}
-use Rattle.laws.proofs.Tests.{and-true, or-false}
-use Rattle.laws.proofs.Scan.{Step}
-use Rattle.laws.proofs.Order.{Chain}
-use Rattle.laws.proofs.FourList.{fours-more, fours-done}
+use Rattle.laws.specs.inner.ListedFours.{four-at, fours-from}
+use Rattle.laws.proofs.Checker.Points.{points-count}
+use Rattle.laws.proofs.Basics.Tests.{and-true, or-false}
+use Rattle.laws.proofs.Basics.Scan.{Step}
+use Rattle.laws.proofs.Checker.Chain.{Chain}
+use Rattle.laws.proofs.Judge.FourList.{fours-more, fours-done}
 use Rattle.bench_rules.specs.Bench.{mesh-refusal, mesh-fours, tet-bad, any-tet-bad}
 use Rattle.bench_rules.specs.Sound.{Sound-mesh}
 use Rattle.mesh.specs.Sizes.{points-right, tets-right}

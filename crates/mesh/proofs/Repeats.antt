@@ -8,8 +8,8 @@ use native.Mathlib.Numerals.{add-one}
 use lib.Dec.{eqb}
 use lib.ListN.{length, getD, take, drop, drop-of-length-le}
 use lib.Seq.{drop-cons, getD-take, length-take-le}
-use Rattle.laws.proofs.Passes.{Test}
-use Rattle.laws.proofs.Scan.{Step}
+use Rattle.laws.proofs.Basics.Passes.{Test}
+use Rattle.laws.proofs.Basics.Scan.{Step}
 use Rattle.bench_rules.specs.Bench.{member}
 use Rattle.mesh.specs.Codes.{all-different}
 

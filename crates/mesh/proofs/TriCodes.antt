@@ -10,9 +10,9 @@ use native.Mathlib.Decide.{decLt}
 use borrow.Author.Tests.{lt-ltb, le-ltb, eq-eqb, eqb-true}
 use lib.Dec.{ltb, eqb}
 use Rattle.laws.specs.Laws.{Tri, tri, same-tri, has, once}
-use Rattle.laws.specs.FaceCodes.{least-turn}
-use Rattle.laws.proofs.Lists.{Each, none, more}
-use Rattle.laws.proofs.Triangles.{turn, Same, turn-0, turn-1, turn-2, same-sym, same-trans, same-tri-true, same-tri-of}
+use Rattle.laws.specs.inner.FaceCodes.{least-turn}
+use Rattle.laws.proofs.Basics.Lists.{Each, none, more}
+use Rattle.laws.proofs.Faces.Triangles.{turn, Same, turn-0, turn-1, turn-2, same-sym, same-trans, same-tri-true, same-tri-of}
 use Rattle.bench_rules.specs.Bench.{member}
 use Rattle.bench_rules.proofs.PickedNumbers.{same-test}
 use Rattle.mesh.specs.Codes.{tri-code, all-different}

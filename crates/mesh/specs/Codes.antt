@@ -3,7 +3,7 @@ use mathlib.Core.Bool.{Bool, true, _&&_, not}
 use mathlib.Core.List.{List, [], _∷_}
 use Prim.Native.Nat.{ℕ, _+_, _*_}
 use Rattle.laws.specs.Laws.{Tri}
-use Rattle.laws.specs.FaceCodes.{least-turn}
+use Rattle.laws.specs.inner.FaceCodes.{least-turn}
 use Rattle.bench_rules.specs.Bench.{member}
 
 unfoldable pub tri-code : Tri → ℕ

@@ -1,13 +1,13 @@
 // Whether an open cavity is one of the mesh: C and P, as marks, of each other. Assumes nothing.
 use geometry::tetrahedron::Four;
-use laws::fours::four_at;
+use judge::fours::four_at;
 ghost use mathlib.Core.Path.{_≡_};
 ghost use mathlib.Core.Bool.{_&&_, not};
 ghost use Prim.Native.Nat.{_/_, _≤_, _<_};
 ghost use lib.Dec.{ltb, eqb};
 ghost use lib.ListN.{length, getD};
 ghost use Rattle.laws.specs.Laws.{corner-of};
-ghost use Rattle.laws.specs.ListedFours.{four-at};
+ghost use Rattle.laws.specs.inner.ListedFours.{four-at};
 ghost use Rattle.bench_rules.specs.Bench.{mesh-fours, member, same-numbers, nth, corner-of-any, corners-in, points-of, tets-in};
 ghost use Rattle.bench_rules.specs.Marks.{marked};
 ghost use Rattle.bench_rules.specs.Sound.{Marks-within};

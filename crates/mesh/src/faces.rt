@@ -1,6 +1,6 @@
 // Outward faces of a mesh by number (number 19). Assumes nothing.
 use geometry::tetrahedron::oriented;
-use laws::fours::four_at;
+use judge::fours::four_at;
 ghost use mathlib.Core.Path.{_≡_};
 ghost use mathlib.Core.List.{map};
 ghost use Prim.Native.Nat.{suc, _≤_, _<_};

@@ -2,7 +2,7 @@
 use geometry::measure::measure_four;
 use geometry::measure::millionths_of;
 use geometry::tetrahedron::Four;
-use laws::fours::four_at;
+use judge::fours::four_at;
 ghost use mathlib.Core.Path.{_≡_};
 ghost use Rattle.geometry.specs.Space.{points-in};
 ghost use Rattle.geometry.specs.Range.{Present};

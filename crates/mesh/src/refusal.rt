@@ -1,11 +1,11 @@
 // Which of numbers 2, 3, 4, 17, 18, 19 refuses a mesh, 0 for none. `mesh_refusal` takes any lists.
 // Assumes nothing.
 use crate::faces::faces_once;
+use checker::check::two_alike;
 use geometry::range::any_far;
 use geometry::tetrahedron::Four;
 use geometry::tetrahedron::is_solid;
-use laws::check::two_alike;
-use laws::fours::four_at;
+use judge::fours::four_at;
 ghost use mathlib.Core.Path.{_≡_};
 ghost use mathlib.Core.Bool.{false};
 ghost use Rattle.geometry.specs.Space.{points-in};

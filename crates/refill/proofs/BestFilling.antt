@@ -9,7 +9,7 @@ use Rattle.geometry.specs.Space.{four}
 use Rattle.geometry.specs.declared.tetrahedron.Four.{Four}
 use Rattle.laws.specs.Laws.{Job, bytes, fours-in, worst}
 use Rattle.laws.specs.Choice.{Choice}
-use Rattle.laws.proofs.Deciding.{choice}
+use Rattle.laws.proofs.Choice.Deciding.{choice}
 use Rattle.search.specs.Entry.{in-front, says, Searched, Search-says}
 use Rattle.search.specs.declared.search.Found.{Found}
 use Rattle.search.proofs.Answers.{searched-of}

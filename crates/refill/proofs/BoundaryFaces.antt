@@ -10,7 +10,7 @@ use lib.ListN.{length, getD, set, drop, replicate, length-append, drop-of-length
 use lib.Seq.{drop-cons}
 use Rattle.geometry.specs.declared.tetrahedron.Four.{Four}
 use Rattle.laws.specs.Laws.{Tri, tri, faces, reversed}
-use Rattle.laws.proofs.Scan.{Step}
+use Rattle.laws.proofs.Basics.Scan.{Step}
 use Rattle.bench_rules.specs.Bench.{member, place-in, renumbered}
 use Rattle.bench_rules.specs.Marks.{entries}
 use Rattle.mesh.specs.Codes.{tri-code}

@@ -10,7 +10,7 @@ use lib.IntN.{ℤ}
 use Rattle.geometry.specs.Space.{four, points-in, turned}
 use Rattle.geometry.specs.declared.tetrahedron.Four.{Four}
 use Rattle.laws.specs.Laws.{Tri, faces, all-faces}
-use Rattle.laws.specs.ListedFours.{Below, four-at}
+use Rattle.laws.specs.inner.ListedFours.{Below, four-at}
 use Rattle.bench_rules.specs.Bench.{mesh-fours, nth, unmatched-in, renumbered}
 use Rattle.bench_rules.specs.Marks.{entries}
 use Rattle.bench_rules.specs.Sound.{Sound-mesh}

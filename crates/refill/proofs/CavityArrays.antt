@@ -11,7 +11,7 @@ use Rattle.geometry.specs.Space.{points-in}
 use Rattle.geometry.specs.Range.{any-far}
 use Rattle.geometry.specs.declared.tetrahedron.Four.{Four}
 use Rattle.laws.specs.Laws.{Tri, all-faces, bytes, choose}
-use Rattle.laws.proofs.TablePlace.{fours-most}
+use Rattle.laws.proofs.Order.TablePlace.{fours-most}
 use Rattle.bench_rules.specs.Bench.{mesh-fours, parts, unmatched-in, renumbered, coordinates, cavity-triangles, cavity-table}
 use Rattle.bench_rules.specs.Marks.{marked, entries}
 use Rattle.bench_rules.specs.Sound.{Sound-mesh, Open-mesh, bench-of, marked-cavity}

@@ -10,9 +10,9 @@ use Rattle.geometry.specs.Space.{four}
 use Rattle.geometry.specs.declared.tetrahedron.Four.{Four}
 use Rattle.laws.specs.Check.{over}
 use Rattle.laws.specs.Fours.{from, rest, with-each, all-fours}
-use Rattle.laws.proofs.Tests.{and-true}
-use Rattle.laws.proofs.TablePlace.{over-none}
-use Rattle.laws.proofs.FourOrder.{four-equal}
+use Rattle.laws.proofs.Basics.Tests.{and-true}
+use Rattle.laws.proofs.Order.TablePlace.{over-none}
+use Rattle.laws.proofs.Order.FourOrder.{four-equal}
 use Rattle.search.specs.Filing.{Follows, next-a, next-b, next-c, next-d}
 
 -- ---- the step as a function

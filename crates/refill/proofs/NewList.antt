@@ -9,7 +9,7 @@ use lib.IntN.{ℤ}
 use Rattle.geometry.specs.declared.tetrahedron.Four.{Four}
 use Rattle.laws.specs.Laws.{bytes, fours-in}
 use Rattle.laws.specs.Fours.{from}
-use Rattle.laws.proofs.Conditions.{Keeps}
+use Rattle.laws.proofs.Choice.Conditions.{Keeps}
 use Rattle.bench_rules.specs.Bench.{mesh-fours, nth, parts, pick, member, back, new-tets, cavity-job}
 use Rattle.bench_rules.specs.Marks.{marked, entries}
 use Rattle.bench_rules.specs.Sound.{Sound-mesh, Open-mesh, bench-of, marked-cavity}

@@ -14,10 +14,10 @@ use Rattle.geometry.specs.Range.{any-far}
 use Rattle.geometry.specs.declared.tetrahedron.Four.{Four}
 use Rattle.laws.specs.Laws.{bytes}
 use Rattle.laws.specs.Check.{job-refusal}
-use Rattle.laws.proofs.Bytes.{length-bytes}
-use Rattle.laws.proofs.Lists.{Each, each-of-members}
-use Rattle.laws.proofs.Points.{points-count}
-use Rattle.laws.proofs.Tests.{and-true}
+use Rattle.laws.proofs.Order.Bytes.{length-bytes}
+use Rattle.laws.proofs.Basics.Lists.{Each, each-of-members}
+use Rattle.laws.proofs.Checker.Points.{points-count}
+use Rattle.laws.proofs.Basics.Tests.{and-true}
 use Rattle.bench_rules.specs.Bench.{Bench, Cavity, mesh-fours, nth, parts, coordinates, renumbered, cavity-triangles, cavity-table, any-tet-bad}
 use Rattle.bench_rules.specs.History.{Cavity-accepted}
 use Rattle.bench_rules.specs.Marks.{marked}

@@ -9,9 +9,9 @@ use lib.ListN.{length}
 use Rattle.geometry.specs.Space.{V3, turned}
 use Rattle.geometry.specs.declared.tetrahedron.Four.{Four}
 use Rattle.laws.specs.Laws.{Tri, tri, faces, all-faces, reversed, has}
-use Rattle.laws.specs.ListedFours.{Below}
-use Rattle.laws.proofs.Lists.{Each, none, more, each-append}
-use Rattle.laws.proofs.ProperFaces.{Distinct-corners, turned-distinct-corners, turned-below}
+use Rattle.laws.specs.inner.ListedFours.{Below}
+use Rattle.laws.proofs.Basics.Lists.{Each, none, more, each-append}
+use Rattle.laws.proofs.Faces.ProperFaces.{Distinct-corners, turned-distinct-corners, turned-below}
 use Rattle.bench_rules.specs.Bench.{member, unmatched-in}
 use Rattle.bench_rules.proofs.GoodTets.{Sound}
 use Rattle.mesh.specs.Codes.{tri-code}

@@ -9,8 +9,8 @@ use lib.IntN.{ℤ, pos}
 use lib.Seq.{drop-cons}
 use Rattle.geometry.specs.Space.{points-in}
 use Rattle.laws.specs.Fours.{from}
-use Rattle.laws.proofs.Lists.{Each}
-use Rattle.laws.proofs.Points.{points-count}
+use Rattle.laws.proofs.Basics.Lists.{Each}
+use Rattle.laws.proofs.Checker.Points.{points-count}
 use Rattle.bench_rules.specs.Bench.{pick, coordinates}
 use Rattle.bench_rules.specs.Marks.{marked, entries}
 use Rattle.bench_rules.specs.Sound.{Marks-within}

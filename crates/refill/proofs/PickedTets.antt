@@ -9,7 +9,7 @@ use Rattle.geometry.specs.Space.{four}
 use Rattle.geometry.specs.declared.tetrahedron.Four.{Four}
 use Rattle.laws.specs.Laws.{bytes}
 use Rattle.laws.specs.Fours.{from}
-use Rattle.laws.proofs.Bytes.{length-bytes}
+use Rattle.laws.proofs.Order.Bytes.{length-bytes}
 use Rattle.bench_rules.specs.Bench.{mesh-fours, nth, parts, pick, member}
 use Rattle.bench_rules.specs.Marks.{marked, entries}
 use Rattle.bench_rules.specs.Sound.{Marks-within}

@@ -12,7 +12,7 @@ use Rattle.geometry.specs.Measure.{four-entry}
 use Rattle.geometry.specs.declared.tetrahedron.Four.{Four}
 use Rattle.laws.specs.Laws.{choose}
 use Rattle.laws.specs.Fours.{all-fours}
-use Rattle.laws.proofs.Binomials.{choose-monotone}
+use Rattle.laws.proofs.Order.Binomials.{choose-monotone}
 use Rattle.bench_rules.specs.Bench.{cavity-table}
 use Rattle.bench_rules.specs.Marks.{entries}
 use Rattle.bench_rules.proofs.AllPlaces.{all-fours-length}

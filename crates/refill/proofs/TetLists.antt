@@ -6,7 +6,7 @@ use native.Mathlib.Omega.{arith}
 use lib.ListN.{length, length-append, length-map}
 use Rattle.geometry.specs.declared.tetrahedron.Four.{Four}
 use Rattle.laws.specs.Laws.{bytes, fours-in}
-use Rattle.laws.proofs.Bytes.{length-bytes}
+use Rattle.laws.proofs.Order.Bytes.{length-bytes}
 use Rattle.search.proofs.Context.{fours-in-length}
 use Rattle.bench_rules.specs.Bench.{back}
 use Rattle.bench_rules.specs.Marks.{entries}

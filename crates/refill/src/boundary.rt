@@ -2,7 +2,7 @@
 use crate::place::place_of;
 use geometry::tetrahedron::Four;
 use geometry::tetrahedron::oriented;
-use laws::fours::four_at;
+use judge::fours::four_at;
 use mesh::faces::face_codes;
 use mesh::faces::tri_code;
 ghost use mathlib.Core.Path.{_≡_};
@@ -11,7 +11,7 @@ ghost use Prim.Native.Nat.{_+_, _≤_, _<_};
 ghost use lib.ListN.{length};
 ghost use Rattle.geometry.specs.Space.{points-in};
 ghost use Rattle.laws.specs.Laws.{Tri, tri, faces, all-faces};
-ghost use Rattle.laws.specs.ListedFours.{Below};
+ghost use Rattle.laws.specs.inner.ListedFours.{Below};
 ghost use Rattle.bench_rules.specs.Bench.{mesh-fours, member, unmatched-in, renumbered};
 ghost use Rattle.bench_rules.specs.Marks.{entries};
 ghost use Rattle.bench_rules.specs.Sound.{Sound-mesh};

@@ -13,7 +13,7 @@ use Rattle.geometry.specs.declared.tetrahedron.Four.{Four}
 use Rattle.laws.specs.Laws.{Job, fours-in, lawful, worst}
 use Rattle.laws.specs.Check.{job, job-refusal}
 use Rattle.laws.specs.Promise.{Best-there}
-use Rattle.laws.proofs.Promises.{best-there}
+use Rattle.laws.proofs.Choice.Promises.{best-there}
 use Rattle.search.specs.Marks.{marked}
 use Rattle.search.specs.Tables.{Attempted, Highest}
 use Rattle.search.specs.Entry.{or-else, says, Under, Searched, Searched-from, Search-as, Search-says}

@@ -11,8 +11,8 @@ use lib.IntN.{ℤ}
 use Rattle.geometry.specs.declared.tetrahedron.Four.{Four}
 use Rattle.laws.specs.Laws.{entry, quality, fours-in, lawful, worst, Best, bytes}
 use Rattle.laws.specs.Check.{job, job-refusal}
-use Rattle.laws.specs.Members.{In}
-use Rattle.laws.proofs.Tests.{contradiction}
+use Rattle.laws.specs.inner.Members.{In}
+use Rattle.laws.proofs.Basics.Tests.{contradiction}
 use Rattle.search.specs.Marks.{Covers, marked, marked-from, Extended}
 use Rattle.search.specs.Steps.{Settles}
 use Rattle.search.specs.Tables.{Filed, Whole, Alive-from, Between, Attempted, Highest, Least-set}

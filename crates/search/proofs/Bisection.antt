@@ -10,13 +10,13 @@ use native.Mathlib.Decide.{decLt}
 use Rattle.geometry.specs.Space.{turned}
 use Rattle.geometry.specs.declared.tetrahedron.Four.{Four}
 use Rattle.laws.specs.Laws.{Job, Tri, entry, quality, faces, lawful, worst}
-use Rattle.laws.specs.Members.{In, Any}
-use Rattle.laws.proofs.Tests.{true-or-false}
-use Rattle.laws.proofs.Lists.{Witness, find}
-use Rattle.laws.proofs.Triangles.{Has}
-use Rattle.laws.proofs.Conditions.{keeps}
-use Rattle.laws.proofs.Conforming.{law-4-conforming}
-use Rattle.laws.proofs.Owners.{face-owner}
+use Rattle.laws.specs.inner.Members.{In, Any}
+use Rattle.laws.proofs.Basics.Tests.{true-or-false}
+use Rattle.laws.proofs.Basics.Lists.{Witness, find}
+use Rattle.laws.proofs.Faces.Triangles.{Has}
+use Rattle.laws.proofs.Choice.Conditions.{keeps}
+use Rattle.laws.proofs.Faces.Conforming.{law-4-conforming}
+use Rattle.laws.proofs.Faces.Owners.{face-owner}
 use Rattle.search.specs.Part.{Ext}
 use Rattle.search.specs.Marks.{Covers}
 use Rattle.search.proofs.Boundary.{Boundary}

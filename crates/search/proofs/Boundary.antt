@@ -9,11 +9,11 @@ use lib.ListN.{length}
 use lib.IntN.{ℤ}
 use Rattle.laws.specs.Laws.{Tri, tri, same-tri, reversed}
 use Rattle.laws.specs.Check.{job, job-refusal, tri-bad, any-tri-bad, tri-taken, tris-alike}
-use Rattle.laws.specs.Members.{here, there}
-use Rattle.laws.proofs.Tests.{contradiction, or-false, or-left, or-right}
-use Rattle.laws.proofs.Triangles.{back, Same, turn-0, turn-1, turn-2, same-sym, same-trans, same-back, same-tri-of, Has, has-same, Once}
-use Rattle.laws.proofs.Conditions.{accepted}
-use Rattle.laws.proofs.Conforming.{unlike-once}
+use Rattle.laws.specs.inner.Members.{here, there}
+use Rattle.laws.proofs.Basics.Tests.{contradiction, or-false, or-left, or-right}
+use Rattle.laws.proofs.Faces.Triangles.{back, Same, turn-0, turn-1, turn-2, same-sym, same-trans, same-back, same-tri-of, Has, has-same, Once}
+use Rattle.laws.proofs.Choice.Conditions.{accepted}
+use Rattle.laws.proofs.Faces.Conforming.{unlike-once}
 
 pub record Boundary (T : List Tri) : Type 0 where
   pub single : Once T

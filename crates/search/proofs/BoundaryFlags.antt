@@ -9,13 +9,13 @@ use lib.Dec.{ltb}
 use lib.ListN.{getD}
 use Rattle.geometry.specs.declared.tetrahedron.Four.{Four}
 use Rattle.laws.specs.Laws.{Tri, tri, reversed, faces, has}
-use Rattle.laws.proofs.Tests.{contradiction, true-or-false}
-use Rattle.laws.proofs.Lists.{Each, none, more, Witness, find, any-of-member}
-use Rattle.laws.proofs.Triangles.{back, reversed-back, has-true, has-of}
-use Rattle.laws.specs.FaceCodes.{face-code, flip-code, Proper}
+use Rattle.laws.proofs.Basics.Tests.{contradiction, true-or-false}
+use Rattle.laws.proofs.Basics.Lists.{Each, none, more, Witness, find, any-of-member}
+use Rattle.laws.proofs.Faces.Triangles.{back, reversed-back, has-true, has-of}
+use Rattle.laws.specs.inner.FaceCodes.{face-code, flip-code, Proper}
 use Rattle.search.specs.Part.{reverses}
 use Rattle.search.specs.Codes.{Bound, Bound-flags}
-use Rattle.laws.proofs.FaceCodes.{face-code-back}
+use Rattle.laws.proofs.Faces.FaceCodes.{face-code-back}
 use Rattle.search.proofs.FaceTable.{code-has, has-code}
 
 pub proper-back : {t : Tri} → Proper t → Proper (back t)

@@ -11,14 +11,14 @@ use lib.ListN.{length}
 use Rattle.geometry.specs.Space.{solid, turned}
 use Rattle.geometry.specs.declared.tetrahedron.Four.{Four}
 use Rattle.laws.specs.Laws.{Job, Tri, tri, rising, entry, quality, none-inside, faces, all-faces, reversed, has, law-2, law-3, lawful, worst}
-use Rattle.laws.specs.Members.{here, there, In}
-use Rattle.laws.proofs.Tests.{and-true, and-of, or-false, or-false-of, not-of}
-use Rattle.laws.proofs.Lists.{Each, none, more, any-of-member, each-at-member}
-use Rattle.laws.proofs.Triangles.{back, same-refl, same-back, Has, has-true, has-false-of, has-same-test}
-use Rattle.laws.proofs.Conditions.{keeps}
-use Rattle.laws.proofs.Conforming.{law-4-conforming}
-use Rattle.laws.proofs.Sorted.{Well-formed, law-1-well-formed}
-use Rattle.laws.proofs.Owners.{owned-face}
+use Rattle.laws.specs.inner.Members.{here, there, In}
+use Rattle.laws.proofs.Basics.Tests.{and-true, and-of, or-false, or-false-of, not-of}
+use Rattle.laws.proofs.Basics.Lists.{Each, none, more, any-of-member, each-at-member}
+use Rattle.laws.proofs.Faces.Triangles.{back, same-refl, same-back, Has, has-true, has-false-of, has-same-test}
+use Rattle.laws.proofs.Choice.Conditions.{keeps}
+use Rattle.laws.proofs.Faces.Conforming.{law-4-conforming}
+use Rattle.laws.proofs.Order.Sorted.{Well-formed, law-1-well-formed}
+use Rattle.laws.proofs.Faces.Owners.{owned-face}
 use Rattle.search.specs.Pierce.{pierced}
 use Rattle.search.specs.Part.{reverses, candidate}
 use Rattle.search.proofs.Boundary.{Boundary}

@@ -1,6 +1,6 @@
 -- The loops that choose an open face: one face after the other. Assumes nothing.
 use mathlib.Core.Path.{_≡_, refl, sym, subst, ap, _∙_}
-use Rattle.laws.specs.FaceCodes.{flip-code}
+use Rattle.laws.specs.inner.FaceCodes.{flip-code}
 use mathlib.Core.Bool.{true, false}
 use mathlib.Core.Logic.{_⊎_, inl, inr}
 use mathlib.Core.List.{List}

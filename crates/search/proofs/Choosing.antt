@@ -11,8 +11,8 @@ use lib.ListN.{length, getD}
 use lib.IntN.{ℤ}
 use Rattle.laws.specs.Laws.{fours-in}
 use Rattle.laws.specs.Check.{job}
-use Rattle.laws.proofs.Tests.{and-true, or-true, true-or-false}
-use Rattle.laws.specs.FaceCodes.{face-code, flip-code}
+use Rattle.laws.proofs.Basics.Tests.{and-true, or-true, true-or-false}
+use Rattle.laws.specs.inner.FaceCodes.{face-code, flip-code}
 use Rattle.search.specs.Marks.{Reduced}
 use Rattle.search.specs.Codes.{Bound, Owner, Owner-flags, open-code}
 use Rattle.search.specs.Steps.{Context, Settles}

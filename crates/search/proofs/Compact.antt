@@ -6,9 +6,9 @@ use Prim.Native.Nat.{ℕ, _≤_}
 use lib.ListN.{length}
 use Rattle.geometry.specs.declared.tetrahedron.Four.{Four}
 use Rattle.laws.specs.Laws.{Job}
-use Rattle.laws.specs.Members.{In}
-use Rattle.laws.proofs.Lists.{each-of-members}
-use Rattle.laws.proofs.Sorted.{sorted-law-1}
+use Rattle.laws.specs.inner.Members.{In}
+use Rattle.laws.proofs.Basics.Lists.{each-of-members}
+use Rattle.laws.proofs.Order.Sorted.{sorted-law-1}
 use Rattle.search.specs.Marks.{Pool, Covers, marked, Started, Reduced}
 use Rattle.search.proofs.Boundary.{Boundary}
 use Rattle.search.proofs.Candidates.{candidate-true}

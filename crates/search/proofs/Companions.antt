@@ -12,13 +12,13 @@ use Rattle.geometry.specs.declared.tetrahedron.Four.{Four}
 use Rattle.geometry.specs.Range.{Present}
 use Rattle.laws.specs.Laws.{Tri, faces, four-before, has, fours-in}
 use Rattle.laws.specs.Check.{job}
-use Rattle.laws.proofs.Tests.{true-or-false}
-use Rattle.laws.proofs.Lists.{Each, each-at-member}
-use Rattle.laws.proofs.Triangles.{has-true, has-of}
-use Rattle.laws.proofs.Conditions.{accepted}
-use Rattle.laws.proofs.FourOrder.{four-before-asym}
-use Rattle.laws.proofs.Sorted.{Well-formed, Increasing, increasing, law-1-well-formed}
-use Rattle.laws.specs.FaceCodes.{face-code, Proper}
+use Rattle.laws.proofs.Basics.Tests.{true-or-false}
+use Rattle.laws.proofs.Basics.Lists.{Each, each-at-member}
+use Rattle.laws.proofs.Faces.Triangles.{has-true, has-of}
+use Rattle.laws.proofs.Choice.Conditions.{accepted}
+use Rattle.laws.proofs.Order.FourOrder.{four-before-asym}
+use Rattle.laws.proofs.Order.Sorted.{Well-formed, Increasing, increasing, law-1-well-formed}
+use Rattle.laws.specs.inner.FaceCodes.{face-code, Proper}
 use Rattle.search.specs.Part.{shares, compatible}
 use Rattle.search.specs.Marks.{nth}
 use Rattle.search.specs.Codes.{Owns}

@@ -8,16 +8,16 @@ use lib.ListN.{length}
 use Rattle.geometry.specs.Space.{V3, turned}
 use Rattle.geometry.specs.declared.tetrahedron.Four.{Four}
 use Rattle.laws.specs.Laws.{Job, Tri, faces, all-faces, has, is-corner, holds-edge, lawful}
-use Rattle.laws.specs.Members.{here, there, In}
-use Rattle.laws.proofs.Lists.{Each, none, more, any-append-cases, find, each-at-member, each-of-members}
-use Rattle.laws.proofs.Triangles.{back, same-refl, Has, Once, empty, first}
-use Rattle.laws.proofs.Conditions.{lawful-of}
-use Rattle.laws.proofs.Conforming.{Conforming, conforming-law-4, Closed}
-use Rattle.laws.proofs.FourOrder.{four-before-asym}
-use Rattle.laws.proofs.Sorted.{Sorted, start, next, sorted-law-1}
-use Rattle.laws.proofs.Sort.{Distinct, nil, new}
-use Rattle.laws.proofs.Owners.{face-owner}
-use Rattle.laws.proofs.ProperFaces.{distinct-corners, turned-distinct-corners}
+use Rattle.laws.specs.inner.Members.{here, there, In}
+use Rattle.laws.proofs.Basics.Lists.{Each, none, more, any-append-cases, find, each-at-member, each-of-members}
+use Rattle.laws.proofs.Faces.Triangles.{back, same-refl, Has, Once, empty, first}
+use Rattle.laws.proofs.Choice.Conditions.{lawful-of}
+use Rattle.laws.proofs.Faces.Conforming.{Conforming, conforming-law-4, Closed}
+use Rattle.laws.proofs.Order.FourOrder.{four-before-asym}
+use Rattle.laws.proofs.Order.Sorted.{Sorted, start, next, sorted-law-1}
+use Rattle.laws.proofs.Order.Sort.{Distinct, nil, new}
+use Rattle.laws.proofs.Faces.Owners.{face-owner}
+use Rattle.laws.proofs.Faces.ProperFaces.{distinct-corners, turned-distinct-corners}
 use Rattle.search.specs.Part.{Together}
 use Rattle.search.proofs.Faces.{faces-once}
 use Rattle.search.proofs.Candidates.{Candidate, law-2-of, law-3-of}

@@ -16,8 +16,8 @@ use Rattle.geometry.specs.Space.{V3, four, points-in, turned, D, above, zero-z}
 use Rattle.geometry.specs.declared.tetrahedron.Four.{Four}
 use Rattle.laws.specs.Laws.{tri, place, entry, quality}
 use Rattle.laws.specs.Check.{job}
-use Rattle.laws.proofs.Tests.{contradiction}
-use Rattle.laws.specs.FaceCodes.{face-code}
+use Rattle.laws.proofs.Basics.Tests.{contradiction}
+use Rattle.laws.specs.inner.FaceCodes.{face-code}
 use Rattle.search.specs.Part.{candidate}
 use Rattle.search.specs.Filing.{put-four, put-faces, Considered, filed}
 

@@ -13,12 +13,12 @@ use Rattle.geometry.specs.Space.{turned}
 use Rattle.geometry.specs.declared.tetrahedron.Four.{Four}
 use Rattle.laws.specs.Laws.{faces, all-faces, has, law-6, law-7, fours-in}
 use Rattle.laws.specs.Check.{job}
-use Rattle.laws.proofs.Tests.{and-true, true-or-false}
-use Rattle.laws.proofs.Lists.{Each}
-use Rattle.laws.proofs.Conditions.{accepted}
-use Rattle.laws.proofs.Sorted.{Sorted, Well-formed, law-1-well-formed}
-use Rattle.laws.specs.FaceCodes.{flip-code, Proper}
-use Rattle.laws.proofs.ProperFaces.{boundary-proper}
+use Rattle.laws.proofs.Basics.Tests.{and-true, true-or-false}
+use Rattle.laws.proofs.Basics.Lists.{Each}
+use Rattle.laws.proofs.Choice.Conditions.{accepted}
+use Rattle.laws.proofs.Order.Sorted.{Sorted, Well-formed, law-1-well-formed}
+use Rattle.laws.specs.inner.FaceCodes.{flip-code, Proper}
+use Rattle.laws.proofs.Faces.ProperFaces.{boundary-proper}
 use Rattle.search.specs.Part.{open-face}
 use Rattle.search.specs.Marks.{nth, marked, live, Fills, Placed, Reduced, Extended, Cornered}
 use Rattle.search.specs.Codes.{Owns, Owner-flags, open-code}
@@ -28,7 +28,7 @@ use Rattle.search.proofs.Coverage.{law-6-true, law-7-true}
 use Rattle.search.proofs.Numbers.{pool-sorted}
 use Rattle.search.proofs.Setting.{cornered, placed-falls, placed-fit}
 use Rattle.search.proofs.Reduction.{found-marks, none-closed, none-face, reduced-drop, reduced-falls, reduced-fit, reduced-set, reduced-trans}
-use Rattle.laws.proofs.FaceCodes.{face-code-below}
+use Rattle.laws.proofs.Faces.FaceCodes.{face-code-below}
 use Rattle.search.proofs.FaceTable.{has-owns}
 use Rattle.search.proofs.OpenCodes.{face-proper, none-open, none-open-code, open-at, useless-by-code}
 use Rattle.search.proofs.FaceLoop.{Tried}

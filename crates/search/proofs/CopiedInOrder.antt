@@ -11,7 +11,7 @@ use lib.Seq.{sets, sets-eq, take-at, drop-append-add, drop-drop}
 use Rattle.geometry.specs.Space.{four}
 use Rattle.geometry.specs.declared.tetrahedron.Four.{Four}
 use Rattle.laws.specs.Laws.{bytes, fours-in}
-use Rattle.laws.proofs.Bytes.{length-bytes}
+use Rattle.laws.proofs.Order.Bytes.{length-bytes}
 use Rattle.search.specs.Marks.{marked-from, marked}
 use Rattle.search.specs.Entry.{in-front}
 use Rattle.search.specs.Filing.{put-four, copied}

@@ -10,8 +10,8 @@ use lib.IntN.{ℤ}
 use Rattle.geometry.specs.declared.tetrahedron.Four.{Four}
 use Rattle.laws.specs.Laws.{Edge, corner-of, law-6, law-7, fours-in}
 use Rattle.laws.specs.Check.{job, edges-in}
-use Rattle.laws.specs.Members.{Any, here, there}
-use Rattle.laws.proofs.Tests.{and-of, and-true, true-or-false}
+use Rattle.laws.specs.inner.Members.{Any, here, there}
+use Rattle.laws.proofs.Basics.Tests.{and-of, and-true, true-or-false}
 use Rattle.search.specs.Marks.{nth, marked, Fills}
 use Rattle.search.specs.Tables.{All-below, Link, Links-are, All-linked, Unlinked, point, edge}
 use Rattle.search.proofs.Coverage.{On-edge}

@@ -8,9 +8,9 @@ use native.Mathlib.Omega.{arith}
 use lib.ListN.{length}
 use Rattle.geometry.specs.declared.tetrahedron.Four.{Four}
 use Rattle.laws.specs.Laws.{Job, Edge, law-6, law-7, corner-of, is-corner, corners-from, holds-edge, all-kept}
-use Rattle.laws.specs.Members.{Any, here, there, In}
-use Rattle.laws.proofs.Tests.{contradiction, and-true, and-of, or-true, or-left, or-right}
-use Rattle.laws.proofs.Lists.{Each, none, more, find, any-of-member}
+use Rattle.laws.specs.inner.Members.{Any, here, there, In}
+use Rattle.laws.proofs.Basics.Tests.{contradiction, and-true, and-of, or-true, or-left, or-right}
+use Rattle.laws.proofs.Basics.Lists.{Each, none, more, find, any-of-member}
 
 pub is-corner-true : (p : ℕ) (fs : List Four) → is-corner p fs ≡ true → Any (λ f. corner-of p f ≡ true) fs
 unfolding is-corner

@@ -14,8 +14,8 @@ use Rattle.geometry.specs.Space.{four, points-in}
 use Rattle.geometry.specs.declared.tetrahedron.Four.{Four}
 use Rattle.laws.specs.Laws.{Edge, corner-of, is-corner, holds-edge, all-kept, law-6, law-7, fours-in}
 use Rattle.laws.specs.Check.{job, edges-in}
-use Rattle.laws.proofs.Tests.{contradiction, and-true, and-of, true-or-false}
-use Rattle.laws.proofs.Lists.{find, any-of-member}
+use Rattle.laws.proofs.Basics.Tests.{contradiction, and-true, and-of, true-or-false}
+use Rattle.laws.proofs.Basics.Lists.{find, any-of-member}
 use Rattle.search.specs.Marks.{nth, marked}
 use Rattle.search.proofs.Coverage.{On-edge, holds-edge-of, holds-edge-true, is-corner-of, is-corner-true, law-6-of, law-6-true}
 use Rattle.search.proofs.Numbers.{marked-number, number-marked}

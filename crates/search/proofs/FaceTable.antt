@@ -8,17 +8,17 @@ use lib.ListN.{length, getD}
 use Rattle.geometry.specs.Space.{V3, turned, four, D, above, zero-z}
 use Rattle.geometry.specs.declared.tetrahedron.Four.{Four}
 use Rattle.laws.specs.Laws.{Tri, tri, faces, all-faces, has}
-use Rattle.laws.specs.Members.{Any, here, there}
-use Rattle.laws.proofs.Lists.{Each, none, more, find, any-of-member, each-at-member}
-use Rattle.laws.proofs.Triangles.{Has, has-true, has-of}
-use Rattle.laws.proofs.Sorted.{Well-formed, increasing}
-use Rattle.laws.proofs.Owners.{face-owner, owned-face}
-use Rattle.laws.specs.FaceCodes.{face-code, Proper}
-use Rattle.laws.proofs.ProperFaces.{faces-proper}
+use Rattle.laws.specs.inner.Members.{Any, here, there}
+use Rattle.laws.proofs.Basics.Lists.{Each, none, more, find, any-of-member, each-at-member}
+use Rattle.laws.proofs.Faces.Triangles.{Has, has-true, has-of}
+use Rattle.laws.proofs.Order.Sorted.{Well-formed, increasing}
+use Rattle.laws.proofs.Faces.Owners.{face-owner, owned-face}
+use Rattle.laws.specs.inner.FaceCodes.{face-code, Proper}
+use Rattle.laws.proofs.Faces.ProperFaces.{faces-proper}
 use Rattle.search.specs.Marks.{nth, marked}
 use Rattle.search.specs.Codes.{Face-table, Owns, Owner}
 use Rattle.search.proofs.Numbers.{marked-number, nth-member, number-marked}
-use Rattle.laws.proofs.FaceCodes.{face-code-injective, face-code-same}
+use Rattle.laws.proofs.Faces.FaceCodes.{face-code-injective, face-code-same}
 
 -- ---- standing in a list, by number
 pub has-code : {x : Tri} {ts : List Tri} → Proper x → Each Proper ts → Any (λ s. face-code x ≡ face-code s) ts → Has x ts

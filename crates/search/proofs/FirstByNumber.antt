@@ -9,8 +9,8 @@ use native.Mathlib.Decide.{ℕ-discrete, decLt}
 use lib.ListN.{length, getD}
 use Rattle.geometry.specs.declared.tetrahedron.Four.{Four}
 use Rattle.laws.specs.Laws.{Job, four-before, worst}
-use Rattle.laws.specs.Members.{In}
-use Rattle.laws.proofs.Sorted.{Sorted}
+use Rattle.laws.specs.inner.Members.{In}
+use Rattle.laws.proofs.Order.Sorted.{Sorted}
 use Rattle.search.specs.Marks.{nth, marked, Placed, Reduced, Cornered}
 use Rattle.search.proofs.Boundary.{Boundary}
 use Rattle.search.proofs.Extensions.{Beside, extension-moved}

@@ -8,14 +8,14 @@ use native.Mathlib.Omega.{arith}
 use lib.ListN.{length}
 use Rattle.geometry.specs.declared.tetrahedron.Four.{Four}
 use Rattle.laws.specs.Laws.{Job, all-faces, four-before, list-before, lawful, worst, Best}
-use Rattle.laws.specs.Members.{Any, here, there, In}
-use Rattle.laws.proofs.Lists.{any-of-nil, find, each-at-member}
-use Rattle.laws.proofs.Conditions.{keeps}
-use Rattle.laws.proofs.Conforming.{Closed}
-use Rattle.laws.proofs.FourOrder.{four-before-asym, four-before-trans, four-trichotomy}
-use Rattle.laws.proofs.ListOrder.{list-before-head, list-before-tail, list-before-trans}
-use Rattle.laws.proofs.Sorted.{member-or-not, Sorted, next, law-1-sorted}
-use Rattle.laws.proofs.Rigidity.{law-2-solid, closed-part-has-all}
+use Rattle.laws.specs.inner.Members.{Any, here, there, In}
+use Rattle.laws.proofs.Basics.Lists.{any-of-nil, find, each-at-member}
+use Rattle.laws.proofs.Choice.Conditions.{keeps}
+use Rattle.laws.proofs.Faces.Conforming.{Closed}
+use Rattle.laws.proofs.Order.FourOrder.{four-before-asym, four-before-trans, four-trichotomy}
+use Rattle.laws.proofs.Order.ListOrder.{list-before-head, list-before-tail, list-before-trans}
+use Rattle.laws.proofs.Order.Sorted.{member-or-not, Sorted, next, law-1-sorted}
+use Rattle.laws.proofs.Volume.Rigidity.{law-2-solid, closed-part-has-all}
 use Rattle.search.specs.Part.{Ext}
 use Rattle.search.proofs.Boundary.{Boundary}
 use Rattle.search.proofs.Extensions.{Beside, From, Without, extension-drop, extension-set, extension-start, extension-start-back, subset-filling-equal, unset-is-alive}

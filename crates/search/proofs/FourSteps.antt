@@ -7,8 +7,8 @@ use native.Mathlib.Decide.{decLt}
 use lib.ListN.{length}
 use Rattle.geometry.specs.declared.tetrahedron.Four.{Four}
 use Rattle.laws.specs.Laws.{Job}
-use Rattle.laws.specs.Unmeasured.{Ordered}
-use Rattle.laws.proofs.Sorted.{Well-formed, increasing}
+use Rattle.laws.specs.inner.Unmeasured.{Ordered}
+use Rattle.laws.proofs.Order.Sorted.{Well-formed, increasing}
 use Rattle.search.specs.Tables.{Stage}
 use Rattle.search.specs.Filing.{Follows, next-a, next-b, next-c, next-d}
 use Rattle.search.proofs.Gather.{Before, at-a, at-b, at-c, at-d, four-at, roll-a, roll-b, roll-c, Gathered, gathered-move}

@@ -11,11 +11,11 @@ use lib.Dec.{ltb, eqb}
 use lib.ListN.{length}
 use Rattle.geometry.specs.declared.tetrahedron.Four.{Four}
 use Rattle.laws.specs.Laws.{Job, entry, quality, four-before}
-use Rattle.laws.specs.Members.{here, In}
-use Rattle.laws.proofs.Tests.{and-true, and-of, or-true, or-left, or-right}
-use Rattle.laws.proofs.Lists.{Each, none, more, any-of-nil, any-append-left, any-append-right, any-append-cases, each-at-member, each-of-members}
-use Rattle.laws.proofs.FourOrder.{four-equal}
-use Rattle.laws.proofs.Sorted.{Sorted, start, next, Well-formed, increasing, sorted-law-1}
+use Rattle.laws.specs.inner.Members.{here, In}
+use Rattle.laws.proofs.Basics.Tests.{and-true, and-of, or-true, or-left, or-right}
+use Rattle.laws.proofs.Basics.Lists.{Each, none, more, any-of-nil, any-append-left, any-append-right, any-append-cases, each-at-member, each-of-members}
+use Rattle.laws.proofs.Order.FourOrder.{four-equal}
+use Rattle.laws.proofs.Order.Sorted.{Sorted, start, next, Well-formed, increasing, sorted-law-1}
 use Rattle.search.specs.Part.{candidate}
 use Rattle.search.specs.Marks.{Pool, Covers}
 use Rattle.search.proofs.Boundary.{Boundary}

@@ -13,11 +13,11 @@ use Rattle.geometry.specs.Range.{Present}
 use Rattle.geometry.specs.declared.tetrahedron.Four.{Four}
 use Rattle.laws.specs.Laws.{Job, choose, entry, quality, fours-in}
 use Rattle.laws.specs.Check.{job, job-refusal}
-use Rattle.laws.proofs.Tests.{and-true}
-use Rattle.laws.proofs.Lists.{each-of-members}
-use Rattle.laws.proofs.Conditions.{accepted}
-use Rattle.laws.proofs.Places.{at-most-1820}
-use Rattle.laws.proofs.Sorted.{sorted-law-1}
+use Rattle.laws.proofs.Basics.Tests.{and-true}
+use Rattle.laws.proofs.Basics.Lists.{each-of-members}
+use Rattle.laws.proofs.Choice.Conditions.{accepted}
+use Rattle.laws.proofs.Order.Places.{at-most-1820}
+use Rattle.laws.proofs.Order.Sorted.{sorted-law-1}
 use Rattle.search.specs.Part.{candidate}
 use Rattle.search.specs.Codes.{Face-table}
 use Rattle.search.specs.Tables.{Stage, Qualities, Whole}

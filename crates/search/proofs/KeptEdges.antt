@@ -9,10 +9,10 @@ use lib.Dec.{eqb}
 use Rattle.geometry.specs.Space.{V3, apart}
 use Rattle.geometry.specs.declared.tetrahedron.Four.{Four}
 use Rattle.laws.specs.Laws.{Job, Edge, corner-of, apart-all, law-5, law-7, lawful}
-use Rattle.laws.specs.Members.{Any, here, there, In}
-use Rattle.laws.proofs.Tests.{contradiction, and-true, or-true, or-left, or-right, true-or-false}
-use Rattle.laws.proofs.Lists.{Each, find, any-of-nil, each-at-member}
-use Rattle.laws.proofs.Conditions.{keeps}
+use Rattle.laws.specs.inner.Members.{Any, here, there, In}
+use Rattle.laws.proofs.Basics.Tests.{contradiction, and-true, or-true, or-left, or-right, true-or-false}
+use Rattle.laws.proofs.Basics.Lists.{Each, find, any-of-nil, each-at-member}
+use Rattle.laws.proofs.Choice.Conditions.{keeps}
 use Rattle.search.specs.Pierce.{pierces, pierces-four, pierced, unpierced}
 use Rattle.search.proofs.Pairs.{apart-all-true}
 use Rattle.search.proofs.Coverage.{all-kept-true, holds-edge-true}

@@ -9,14 +9,14 @@ use lib.ListN.{length}
 use Rattle.geometry.specs.Space.{turned}
 use Rattle.geometry.specs.declared.tetrahedron.Four.{Four}
 use Rattle.laws.specs.Laws.{Job, Tri, tri, Edge, faces, all-faces, reversed, has, corner-of, is-corner, holds-edge}
-use Rattle.laws.specs.Members.{Any, In}
-use Rattle.laws.proofs.Tests.{contradiction, and-true, and-of, or-true, or-left, or-right, not-of, true-or-false}
-use Rattle.laws.proofs.Lists.{find, any-of-member, each-at-member}
-use Rattle.laws.proofs.Triangles.{back, Has, has-true, has-of, has-false-of}
-use Rattle.laws.proofs.Conditions.{keeps}
-use Rattle.laws.proofs.Conforming.{Conforming, law-4-conforming, Closed}
-use Rattle.laws.proofs.Owners.{face-owner, owned-face, face-has-one-owner}
-use Rattle.laws.proofs.OpenFaces.{Open, bound, inner, open-face-owner, closed-or-open}
+use Rattle.laws.specs.inner.Members.{Any, In}
+use Rattle.laws.proofs.Basics.Tests.{contradiction, and-true, and-of, or-true, or-left, or-right, not-of, true-or-false}
+use Rattle.laws.proofs.Basics.Lists.{find, any-of-member, each-at-member}
+use Rattle.laws.proofs.Faces.Triangles.{back, Has, has-true, has-of, has-false-of}
+use Rattle.laws.proofs.Choice.Conditions.{keeps}
+use Rattle.laws.proofs.Faces.Conforming.{Conforming, law-4-conforming, Closed}
+use Rattle.laws.proofs.Faces.Owners.{face-owner, owned-face, face-has-one-owner}
+use Rattle.laws.proofs.Faces.OpenFaces.{Open, bound, inner, open-face-owner, closed-or-open}
 use Rattle.search.specs.Part.{open-face, Ext}
 use Rattle.search.proofs.Coverage.{On-edge, holds-edge-of, holds-edge-true, is-corner-of, is-corner-true, law-6-true, law-7-true}
 use Rattle.search.proofs.Extensions.{Useless, unset-is-alive}

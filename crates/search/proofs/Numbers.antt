@@ -12,11 +12,11 @@ use lib.Dec.{eqb}
 use lib.ListN.{length, getD, List·getD-eq-default}
 use Rattle.geometry.specs.declared.tetrahedron.Four.{Four}
 use Rattle.laws.specs.Laws.{Job, four-before}
-use Rattle.laws.specs.Members.{here, there, In}
-use Rattle.laws.proofs.Tests.{true-or-false}
-use Rattle.laws.proofs.Lists.{any-of-nil, each-at-member, each-of-members}
-use Rattle.laws.proofs.FourOrder.{four-before-asym}
-use Rattle.laws.proofs.Sorted.{Sorted, start, next, law-1-sorted, sorted-same-members}
+use Rattle.laws.specs.inner.Members.{here, there, In}
+use Rattle.laws.proofs.Basics.Tests.{true-or-false}
+use Rattle.laws.proofs.Basics.Lists.{any-of-nil, each-at-member, each-of-members}
+use Rattle.laws.proofs.Order.FourOrder.{four-before-asym}
+use Rattle.laws.proofs.Order.Sorted.{Sorted, start, next, law-1-sorted, sorted-same-members}
 use Rattle.search.specs.Marks.{nth, Pool, marked-from, marked, live}
 
 -- ---- numbers of a list

@@ -12,15 +12,15 @@ use lib.ListN.{length, getD}
 use Rattle.geometry.specs.Space.{V3, turned}
 use Rattle.geometry.specs.declared.tetrahedron.Four.{Four}
 use Rattle.laws.specs.Laws.{Job, Tri, reversed, faces, all-faces, has}
-use Rattle.laws.specs.Members.{here, there}
-use Rattle.laws.proofs.Tests.{contradiction, and-true, or-true, true-or-false}
-use Rattle.laws.proofs.Lists.{Each, more, find, each-at-member}
-use Rattle.laws.proofs.Triangles.{back, reversed-back, Same, turn-0, turn-1, turn-2, same-refl, Has, has-of}
-use Rattle.laws.proofs.Sorted.{Well-formed}
-use Rattle.laws.proofs.Owners.{face-owner}
-use Rattle.laws.proofs.OpenFaces.{Open, bound, inner}
-use Rattle.laws.specs.FaceCodes.{face-code, flip-code, Proper}
-use Rattle.laws.proofs.ProperFaces.{faces-proper}
+use Rattle.laws.specs.inner.Members.{here, there}
+use Rattle.laws.proofs.Basics.Tests.{contradiction, and-true, or-true, true-or-false}
+use Rattle.laws.proofs.Basics.Lists.{Each, more, find, each-at-member}
+use Rattle.laws.proofs.Faces.Triangles.{back, reversed-back, Same, turn-0, turn-1, turn-2, same-refl, Has, has-of}
+use Rattle.laws.proofs.Order.Sorted.{Well-formed}
+use Rattle.laws.proofs.Faces.Owners.{face-owner}
+use Rattle.laws.proofs.Faces.OpenFaces.{Open, bound, inner}
+use Rattle.laws.specs.inner.FaceCodes.{face-code, flip-code, Proper}
+use Rattle.laws.proofs.Faces.ProperFaces.{faces-proper}
 use Rattle.search.specs.Part.{open-face}
 use Rattle.search.specs.Marks.{nth, marked, Fills}
 use Rattle.search.specs.Codes.{Face-table, Owns, Owner, Owner-flags, Bound-flags, open-code}
@@ -30,7 +30,7 @@ use Rattle.search.proofs.NewOwners.{open-face-false-of, open-face-of}
 use Rattle.search.proofs.Numbers.{marked-in, nth-member}
 use Rattle.search.proofs.Start.{Live}
 use Rattle.search.proofs.Reduction.{none-face, useless-unmatched}
-use Rattle.laws.proofs.FaceCodes.{face-code-back, face-code-below, proper-turn}
+use Rattle.laws.proofs.Faces.FaceCodes.{face-code-back, face-code-below, proper-turn}
 use Rattle.search.proofs.FaceTable.{has-owner, has-owns, owner-has}
 use Rattle.search.proofs.BoundaryFlags.{proper-back, same-flag, bound-flag-is}
 

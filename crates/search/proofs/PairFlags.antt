@@ -11,7 +11,7 @@ use lib.Dec.{eqb}
 use lib.ListN.{length, getD, set, length-set}
 use Rattle.geometry.specs.declared.tetrahedron.Four.{Four}
 use Rattle.laws.specs.Laws.{corner-of}
-use Rattle.laws.proofs.Tests.{or-true, or-left, or-right}
+use Rattle.laws.proofs.Basics.Tests.{or-true, or-left, or-right}
 use Rattle.search.specs.Tables.{Below-16, linked}
 use Rattle.search.proofs.Flags.{raised-here, raised-stays, raised-elsewhere}
 

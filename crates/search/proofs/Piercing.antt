@@ -17,10 +17,10 @@ use Rattle.geometry.proofs.Machine.{kept}
 use Rattle.geometry.proofs.Value.{value-above, value-positive}
 use Rattle.laws.specs.Laws.{Edge}
 use Rattle.laws.specs.Check.{job, edges-in}
-use Rattle.laws.specs.Listed.{edge-at, edges-from}
-use Rattle.laws.proofs.Tests.{contradiction}
-use Rattle.laws.proofs.Scan.{Step}
-use Rattle.laws.proofs.Rest.{edges-start, edges-more}
+use Rattle.laws.specs.inner.Listed.{edge-at, edges-from}
+use Rattle.laws.proofs.Basics.Tests.{contradiction}
+use Rattle.laws.proofs.Basics.Scan.{Step}
+use Rattle.laws.proofs.Checker.Rest.{edges-start, edges-more}
 use Rattle.search.specs.Pierce.{opposite, all-one-sign, runs-through, pierces, pierces-four, pierced}
 
 -- ---- signs of whole numbers

@@ -12,7 +12,7 @@ use lib.ListN.{length, getD, set}
 use lib.Seq.{getD-set-same, getD-set-other}
 use Rattle.geometry.specs.declared.tetrahedron.Four.{Four}
 use Rattle.laws.specs.Laws.{Job}
-use Rattle.laws.proofs.Tests.{contradiction}
+use Rattle.laws.proofs.Basics.Tests.{contradiction}
 use Rattle.search.specs.Part.{compatible}
 use Rattle.search.specs.Marks.{nth, placed-mark, Placed}
 use Rattle.search.proofs.Numbers.{mark-within}

@@ -10,12 +10,12 @@ use lib.Seq.{getD-set-same, getD-set-other}
 use Rattle.geometry.specs.Space.{turned}
 use Rattle.geometry.specs.declared.tetrahedron.Four.{Four}
 use Rattle.laws.specs.Laws.{Job, Tri, Edge, faces, all-faces, reversed, has, corner-of, is-corner, holds-edge, law-6, law-7}
-use Rattle.laws.specs.Members.{Any, In}
-use Rattle.laws.proofs.Tests.{contradiction, and-of}
-use Rattle.laws.proofs.Lists.{Each}
-use Rattle.laws.proofs.Triangles.{back, reversed-back, Has, has-true, has-false}
-use Rattle.laws.proofs.Conditions.{keeps}
-use Rattle.laws.proofs.Sorted.{Sorted}
+use Rattle.laws.specs.inner.Members.{Any, In}
+use Rattle.laws.proofs.Basics.Tests.{contradiction, and-of}
+use Rattle.laws.proofs.Basics.Lists.{Each}
+use Rattle.laws.proofs.Faces.Triangles.{back, reversed-back, Has, has-true, has-false}
+use Rattle.laws.proofs.Choice.Conditions.{keeps}
+use Rattle.laws.proofs.Order.Sorted.{Sorted}
 use Rattle.search.specs.Part.{open-face, Fit}
 use Rattle.search.specs.Marks.{nth, marked, live, Fills, Reduced, Extended, Cornered}
 use Rattle.search.proofs.Boundary.{Boundary}

@@ -12,14 +12,14 @@ use lib.IntN.{ℤ}
 use Rattle.geometry.specs.Space.{four, points-in}
 use Rattle.laws.specs.Laws.{Tri, tri, fours-in}
 use Rattle.laws.specs.Check.{job, job-refusal, tris-in, edges-in, edge-bad}
-use Rattle.laws.specs.Listed.{tri-at}
-use Rattle.laws.specs.Members.{Any, here, there}
-use Rattle.laws.proofs.Tests.{or-false}
-use Rattle.laws.proofs.Lists.{each-at-member}
-use Rattle.laws.proofs.Conditions.{accepted}
-use Rattle.laws.proofs.Refusal.{points-few, triangles-few, all-within}
-use Rattle.laws.proofs.Sorted.{law-1-well-formed, increasing}
-use Rattle.laws.specs.FaceCodes.{face-code}
+use Rattle.laws.specs.inner.Listed.{tri-at}
+use Rattle.laws.specs.inner.Members.{Any, here, there}
+use Rattle.laws.proofs.Basics.Tests.{or-false}
+use Rattle.laws.proofs.Basics.Lists.{each-at-member}
+use Rattle.laws.proofs.Choice.Conditions.{accepted}
+use Rattle.laws.proofs.Checker.Refusal.{points-few, triangles-few, all-within}
+use Rattle.laws.proofs.Order.Sorted.{law-1-well-formed, increasing}
+use Rattle.laws.specs.inner.FaceCodes.{face-code}
 use Rattle.search.specs.Marks.{nth}
 use Rattle.search.specs.Codes.{Bound, Bound-flags}
 use Rattle.search.specs.Steps.{Context}

@@ -8,8 +8,8 @@ use borrow.Author.Tests.{lt-ltb, le-ltb}
 use lib.ListN.{length, getD, set, replicate, length-replicate, length-set}
 use lib.Seq.{getD-set-same, getD-set-other}
 use Rattle.laws.specs.Laws.{tri}
-use Rattle.laws.specs.Listed.{tri-at}
-use Rattle.laws.specs.FaceCodes.{digits, face-code, least-turn}
+use Rattle.laws.specs.inner.Listed.{tri-at}
+use Rattle.laws.specs.inner.FaceCodes.{digits, face-code, least-turn}
 use Rattle.search.specs.Tables.{All-below, Rim, Named}
 use Rattle.search.proofs.Flags.{zeros, raised-here, raised-stays, raised-elsewhere}
 

@@ -9,10 +9,10 @@ use lib.ListN.{length, getD}
 use Rattle.geometry.specs.declared.tetrahedron.Four.{Four}
 use Rattle.laws.specs.Laws.{Job, entry, quality, Tri, all-faces, worst, Best, bytes}
 use Rattle.laws.specs.Promise.{Best-alone}
-use Rattle.laws.specs.Members.{Any, In}
-use Rattle.laws.proofs.Tests.{contradiction}
-use Rattle.laws.proofs.Lists.{any-of-member}
-use Rattle.laws.proofs.Promises.{best-alone}
+use Rattle.laws.specs.inner.Members.{Any, In}
+use Rattle.laws.proofs.Basics.Tests.{contradiction}
+use Rattle.laws.proofs.Basics.Lists.{any-of-member}
+use Rattle.laws.proofs.Choice.Promises.{best-alone}
 use Rattle.search.specs.Entry.{in-front, says, Searched}
 use Rattle.search.specs.declared.search.Found.{Found}
 use Rattle.search.specs.Part.{open-face}

@@ -11,9 +11,9 @@ use lib.Dec.{eqb}
 use lib.ListN.{length, getD}
 use Rattle.geometry.specs.declared.tetrahedron.Four.{Four}
 use Rattle.laws.specs.Laws.{Job}
-use Rattle.laws.specs.Members.{here, there, In}
-use Rattle.laws.proofs.Tests.{contradiction}
-use Rattle.laws.proofs.Sorted.{Sorted}
+use Rattle.laws.specs.inner.Members.{here, there, In}
+use Rattle.laws.proofs.Basics.Tests.{contradiction}
+use Rattle.laws.proofs.Order.Sorted.{Sorted}
 use Rattle.search.specs.Part.{compatible, Fit}
 use Rattle.search.specs.Marks.{nth, marked, live, Fills, placed-mark, Placed, Extended, Cornered}
 use Rattle.search.proofs.Extensions.{Beside, Useless, extension-moved, extension-set, extension-unset}

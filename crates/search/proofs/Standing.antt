@@ -15,13 +15,13 @@ use Rattle.geometry.specs.declared.tetrahedron.Four.{Four}
 use Rattle.geometry.specs.Range.{Present}
 use Rattle.laws.specs.Laws.{Job, tri, rising, entry, quality, none-inside, faces}
 use Rattle.laws.specs.Check.{job, job-refusal}
-use Rattle.laws.proofs.Tests.{and-of}
-use Rattle.laws.proofs.Lists.{Each}
-use Rattle.laws.proofs.Conditions.{accepted}
-use Rattle.laws.proofs.Scan.{Step}
-use Rattle.laws.proofs.Sorted.{Well-formed}
-use Rattle.laws.specs.FaceCodes.{face-code, flip-code, Proper}
-use Rattle.laws.proofs.ProperFaces.{boundary-proper, faces-proper}
+use Rattle.laws.proofs.Basics.Tests.{and-of}
+use Rattle.laws.proofs.Basics.Lists.{Each}
+use Rattle.laws.proofs.Choice.Conditions.{accepted}
+use Rattle.laws.proofs.Basics.Scan.{Step}
+use Rattle.laws.proofs.Order.Sorted.{Well-formed}
+use Rattle.laws.specs.inner.FaceCodes.{face-code, flip-code, Proper}
+use Rattle.laws.proofs.Faces.ProperFaces.{boundary-proper, faces-proper}
 use Rattle.search.specs.Pierce.{pierced}
 use Rattle.search.specs.Part.{reverses, candidate}
 use Rattle.search.specs.Codes.{Bound-flags}

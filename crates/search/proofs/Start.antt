@@ -11,8 +11,8 @@ use lib.Dec.{leb}
 use lib.ListN.{length, getD}
 use Rattle.geometry.specs.declared.tetrahedron.Four.{Four}
 use Rattle.laws.specs.Laws.{Job, entry, quality}
-use Rattle.laws.specs.Members.{In}
-use Rattle.laws.proofs.Lists.{any-of-nil}
+use Rattle.laws.specs.inner.Members.{In}
+use Rattle.laws.proofs.Basics.Lists.{any-of-nil}
 use Rattle.search.specs.Part.{Ext, Fit}
 use Rattle.search.specs.Marks.{nth, Pool, Covers, marked, Fills, Started}
 use Rattle.search.proofs.Candidates.{candidate-true}

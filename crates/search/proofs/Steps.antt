@@ -8,13 +8,13 @@ use lib.ListN.{length}
 use Rattle.geometry.specs.Space.{turned}
 use Rattle.geometry.specs.declared.tetrahedron.Four.{Four}
 use Rattle.laws.specs.Laws.{Job, Tri, Edge, faces, all-faces, corner-of, is-corner, holds-edge}
-use Rattle.laws.specs.Members.{Any, here, there, In}
-use Rattle.laws.proofs.Lists.{Each, any-of-nil}
-use Rattle.laws.proofs.Triangles.{Has}
-use Rattle.laws.proofs.Conditions.{keeps}
-use Rattle.laws.proofs.Conforming.{Closed}
-use Rattle.laws.proofs.Sorted.{Sorted}
-use Rattle.laws.proofs.OpenFaces.{Open}
+use Rattle.laws.specs.inner.Members.{Any, here, there, In}
+use Rattle.laws.proofs.Basics.Lists.{Each, any-of-nil}
+use Rattle.laws.proofs.Faces.Triangles.{Has}
+use Rattle.laws.proofs.Choice.Conditions.{keeps}
+use Rattle.laws.proofs.Faces.Conforming.{Closed}
+use Rattle.laws.proofs.Order.Sorted.{Sorted}
+use Rattle.laws.proofs.Faces.OpenFaces.{Open}
 use Rattle.search.specs.Part.{candidate, compatible, Ext, Together, Fit}
 use Rattle.search.proofs.Candidates.{candidate-of, candidate-true}
 use Rattle.search.proofs.Pairs.{compatible-swap}

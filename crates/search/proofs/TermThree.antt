@@ -12,8 +12,8 @@ use Rattle.geometry.specs.declared.tetrahedron.Four.{Four}
 use Rattle.laws.specs.Laws.{lawful, worst, list-before, bytes}
 use Rattle.laws.specs.Check.{job, job-refusal}
 use Rattle.laws.specs.Promise.{Best-there}
-use Rattle.laws.proofs.Tests.{true-or-false}
-use Rattle.laws.proofs.Promises.{best-there}
+use Rattle.laws.proofs.Basics.Tests.{true-or-false}
+use Rattle.laws.proofs.Choice.Promises.{best-there}
 use Rattle.search.specs.Entry.{in-front, says, Searched, Search-says}
 use Rattle.search.specs.declared.search.Found.{Found}
 use Rattle.search.proofs.Answers.{refused-of, searched-of, short-of}

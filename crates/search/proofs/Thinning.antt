@@ -10,7 +10,7 @@ use lib.IntN.{ℤ}
 use Rattle.geometry.specs.declared.tetrahedron.Four.{Four}
 use Rattle.laws.specs.Laws.{fours-in}
 use Rattle.laws.specs.Check.{job}
-use Rattle.laws.specs.Members.{In}
+use Rattle.laws.specs.inner.Members.{In}
 use Rattle.search.specs.Marks.{nth, marked, Fills, Reduced}
 use Rattle.search.specs.Codes.{Owner-flags}
 use Rattle.search.specs.Steps.{Context, Stuck}

@@ -14,10 +14,10 @@ use lib.IntN.{ℤ, pos, negsuc}
 use Rattle.geometry.specs.declared.tetrahedron.Four.{Four}
 use Rattle.laws.specs.Laws.{Job, Tri, entry, quality, place, fours-in, lawful, worst}
 use Rattle.laws.specs.Check.{job, job-refusal, tris-in, entry-bad, any-entry-bad}
-use Rattle.laws.specs.Members.{here}
-use Rattle.laws.proofs.Tests.{and-true, or-false}
-use Rattle.laws.proofs.Triangles.{Has, same-refl}
-use Rattle.laws.proofs.Conditions.{accepted}
+use Rattle.laws.specs.inner.Members.{here}
+use Rattle.laws.proofs.Basics.Tests.{and-true, or-false}
+use Rattle.laws.proofs.Faces.Triangles.{Has, same-refl}
+use Rattle.laws.proofs.Choice.Conditions.{accepted}
 use Rattle.search.specs.Codes.{Bound-flags}
 use Rattle.search.specs.Marks.{nth, Pool, Covers, marked, Fills, Started}
 use Rattle.search.specs.Steps.{Context, Ready}

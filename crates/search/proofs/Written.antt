@@ -11,7 +11,7 @@ use lib.Seq.{getD-set-same, getD-set-other, getD-drop, getD-at}
 use Rattle.geometry.specs.Space.{V3, four, turned}
 use Rattle.geometry.specs.declared.tetrahedron.Four.{Four}
 use Rattle.laws.specs.Laws.{Job, entry, quality, tri, faces, fours-in}
-use Rattle.laws.specs.FaceCodes.{face-code}
+use Rattle.laws.specs.inner.FaceCodes.{face-code}
 use Rattle.search.specs.Marks.{nth}
 use Rattle.search.specs.Codes.{Face-table}
 use Rattle.search.specs.Tables.{Qualities, All-below}

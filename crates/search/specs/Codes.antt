@@ -7,9 +7,9 @@ use lib.Dec.{ltb}
 use lib.ListN.{length, getD}
 use Rattle.geometry.specs.Space.{V3, turned}
 use Rattle.geometry.specs.declared.tetrahedron.Four.{Four}
-use Rattle.laws.specs.FaceCodes.{face-code, flip-code}
+use Rattle.laws.specs.inner.FaceCodes.{face-code, flip-code}
 use Rattle.laws.specs.Laws.{Tri, tri, faces}
-use Rattle.laws.specs.Members.{Any}
+use Rattle.laws.specs.inner.Members.{Any}
 use Rattle.search.specs.Marks.{nth}
 
 -- the numbers of the outward faces of each candidate, four for each

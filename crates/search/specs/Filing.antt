@@ -7,7 +7,7 @@ use lib.ListN.{getD, set}
 use Rattle.geometry.specs.Space.{turned}
 use Rattle.geometry.specs.declared.tetrahedron.Four.{Four}
 use Rattle.laws.specs.Laws.{Job, tri, entry, quality}
-use Rattle.laws.specs.FaceCodes.{face-code}
+use Rattle.laws.specs.inner.FaceCodes.{face-code}
 use Rattle.search.specs.Part.{candidate}
 
 -- a table of four numbers for each candidate, with those of the candidate k written

@@ -8,8 +8,8 @@ use lib.IntN.{ℤ}
 use Rattle.geometry.specs.declared.tetrahedron.Four.{Four}
 use Rattle.laws.specs.Laws.{Job, Tri, all-faces, fours-in}
 use Rattle.laws.specs.Check.{job, job-refusal}
-use Rattle.laws.specs.Members.{In}
-use Rattle.laws.specs.FaceCodes.{face-code, flip-code, Proper}
+use Rattle.laws.specs.inner.Members.{In}
+use Rattle.laws.specs.inner.FaceCodes.{face-code, flip-code, Proper}
 use Rattle.search.specs.Part.{open-face, Fit}
 use Rattle.search.specs.Marks.{Pool, marked, Fills, Reduced}
 use Rattle.search.specs.Codes.{Face-table, Owns, Bound-flags, open-code}

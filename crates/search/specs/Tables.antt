@@ -10,7 +10,7 @@ use lib.IntN.{ℤ}
 use Rattle.geometry.specs.declared.tetrahedron.Four.{Four}
 use Rattle.laws.specs.Laws.{Job, tri, entry, quality, corner-of, fours-in, lawful, worst}
 use Rattle.laws.specs.Check.{job}
-use Rattle.laws.specs.FaceCodes.{face-code, flip-code}
+use Rattle.laws.specs.inner.FaceCodes.{face-code, flip-code}
 use Rattle.search.specs.Marks.{nth, marked, Pool, Covers}
 use Rattle.search.specs.Codes.{Face-table, Owns, Owner-flags, open-code}
 use Rattle.search.specs.Steps.{Stuck}

@@ -19,10 +19,10 @@ use crate::pool::next_four;
 use crate::pool::put_faces;
 use crate::settle::settle;
 use crate::thin::thin_all;
+use checker::table::entry;
 use geometry::tetrahedron::Four;
 use geometry::tetrahedron::is_solid;
 use geometry::tetrahedron::oriented;
-use laws::table::entry;
 
 // What a threshold's try gives: whether something is found, how large its pool is, its worst quality and its marks.
 pub struct Attempt {

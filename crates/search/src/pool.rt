@@ -11,7 +11,7 @@ ghost use Rattle.geometry.specs.Vectors.{value};
 ghost use Rattle.geometry.specs.Range.{Present, any-far};
 ghost use Rattle.laws.specs.Laws.{tri, fours-in, entry, quality, none-inside};
 ghost use Rattle.laws.specs.Check.{job, job-refusal};
-ghost use Rattle.laws.specs.FaceCodes.{face-code, flip-code};
+ghost use Rattle.laws.specs.inner.FaceCodes.{face-code, flip-code};
 ghost use Rattle.search.specs.Codes.{Bound-flags};
 ghost use Rattle.search.specs.Filing.{put-four, put-faces, copied, Follows, Considered};
 ghost use Rattle.search.specs.Marks.{marked};
@@ -21,12 +21,12 @@ ghost use Rattle.search.specs.Tables.{All-below, Stage, Filed, Whole};
 use crate::codes::Faces;
 use crate::codes::face_code;
 use crate::codes::flip;
+use checker::table::entry;
 use geometry::tetrahedron::Four;
 use geometry::tetrahedron::is_inside;
 use geometry::tetrahedron::is_solid;
 use geometry::tetrahedron::oriented;
 use geometry::tetrahedron::signed_volume;
-use laws::table::entry;
 
 // The fours of increasing numbers in order; behind the last one the last number is n.
 pub fn next_four(n: usize, f: Four) -> Four

@@ -18,7 +18,7 @@ use crate::codes::rim_codes;
 use crate::first::first_list;
 use crate::pool::gather;
 use crate::pool::put_four;
-use laws::check::check_job;
+use checker::check::check_job;
 
 // What the search answers: 0 and the filling's count and worst quality, or the number of a refusal and zeros.
 #[repr(C)]

@@ -12,10 +12,10 @@ use Rattle.geometry.specs.declared.tetrahedron.Four.{Four}
 use Rattle.laws.specs.Laws.{entry, quality, lawful, worst, worst-from, bytes, fours-in}
 use Rattle.laws.specs.Check.{job, job-refusal}
 use Rattle.laws.specs.Promise.{Fits}
-use Rattle.laws.proofs.Conditions.{keeps, accepted}
-use Rattle.laws.proofs.Judging.{accepted-table, accepted-triangles}
-use Rattle.laws.proofs.Bytes.{length-bytes}
-use Rattle.laws.proofs.Promises.{fits}
+use Rattle.laws.proofs.Choice.Conditions.{keeps, accepted}
+use Rattle.judge.proofs.Judging.{accepted-table, accepted-triangles}
+use Rattle.laws.proofs.Order.Bytes.{length-bytes}
+use Rattle.laws.proofs.Choice.Promises.{fits}
 use Rattle.text.specs.Print.{boundary-faces, H-line, H-lines, filling-out}
 use Rattle.text.specs.Printable.{Filled}
 use Rattle.text.proofs.Filling.{fours-in-length}

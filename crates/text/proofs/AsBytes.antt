@@ -9,7 +9,7 @@ use lib.Dec.{leb, eqb}
 use lib.ListN.{length}
 use Rattle.laws.specs.Laws.{tri}
 use Rattle.laws.specs.Check.{tris-in, edges-in, tri-bad, any-tri-bad, edge-bad}
-use Rattle.laws.proofs.Tests.{or-false}
+use Rattle.laws.proofs.Basics.Tests.{or-false}
 use Rattle.text.specs.Text.{as-byte}
 
 module _ (n : ℕ) (h : n ≤ 16) where

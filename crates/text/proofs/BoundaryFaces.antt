@@ -11,15 +11,15 @@ use Rattle.geometry.specs.Space.{points-in, turned}
 use Rattle.geometry.specs.declared.tetrahedron.Four.{Four}
 use Rattle.laws.specs.Laws.{Job, Tri, tri, faces, has}
 use Rattle.laws.specs.Check.{job, any-tri-bad}
-use Rattle.laws.specs.Listed.{triangles-in}
-use Rattle.laws.specs.ListedFours.{Below}
-use Rattle.laws.specs.FaceCodes.{Proper}
-use Rattle.laws.specs.FaceFlags.{flagged, flag-all}
-use Rattle.laws.proofs.Lists.{Each, none, more}
-use Rattle.laws.proofs.Sorted.{Well-formed}
-use Rattle.laws.proofs.FourList.{turned-present, present-below, present-is}
-use Rattle.laws.proofs.ProperFaces.{faces-proper, boundary-proper}
-use Rattle.laws.proofs.FaceFlags.{no-flags, Flags, flags-of}
+use Rattle.laws.specs.inner.Listed.{triangles-in}
+use Rattle.laws.specs.inner.ListedFours.{Below}
+use Rattle.laws.specs.inner.FaceCodes.{Proper}
+use Rattle.laws.specs.inner.FaceFlags.{flagged, flag-all}
+use Rattle.laws.proofs.Basics.Lists.{Each, none, more}
+use Rattle.laws.proofs.Order.Sorted.{Well-formed}
+use Rattle.laws.proofs.Judge.FourList.{turned-present, present-below, present-is}
+use Rattle.laws.proofs.Faces.ProperFaces.{faces-proper, boundary-proper}
+use Rattle.laws.proofs.Faces.FaceFlags.{no-flags, Flags, flags-of}
 use Rattle.text.specs.Print.{count-in, boundary-faces}
 use Rattle.text.specs.Printable.{count-flagged}
 

@@ -8,7 +8,7 @@ use borrow.Author.Tests.{ltb-true, ltb-false}
 use lib.Dec.{T}
 use lib.IntN.{ℤ, pos, negsuc, natAbs}
 use lib.Signed.{ltZ, nonNeg}
-use Rattle.laws.proofs.Tests.{contradiction, and-true}
+use Rattle.laws.proofs.Basics.Tests.{contradiction, and-true}
 use Rattle.text.specs.Text.{number-form, all-fields, value, coordinate, as-byte}
 use Rattle.text.specs.Runs.{byte-of, byte-value}
 use Rattle.text.proofs.FieldForms.{coordinate-number}

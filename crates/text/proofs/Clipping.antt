@@ -10,10 +10,10 @@ use lib.ListN.{length, take, length-map, length-take}
 use lib.Seq.{take-all}
 use lib.IntN.{ℤ}
 use Rattle.laws.specs.Check.{job-refusal, tris-in, edges-in, any-tri-bad, edge-bad}
-use Rattle.laws.specs.Listed.{points-right, triangles-right, kept-right, triangles-in, kept-in}
+use Rattle.laws.specs.inner.Listed.{points-right, triangles-right, kept-right, triangles-in, kept-in}
 use Rattle.laws.specs.Lists.{refusal-of}
-use Rattle.laws.proofs.Tests.{and-true}
-use Rattle.laws.proofs.Order.{Chain, at-2, at-3, at-4, at-5, at-6, at-7, at-8, at-9, at-10, from-3, from-5, from-7, from-9, from-11}
+use Rattle.laws.proofs.Basics.Tests.{and-true}
+use Rattle.laws.proofs.Checker.Chain.{Chain, at-2, at-3, at-4, at-5, at-6, at-7, at-8, at-9, at-10, from-3, from-5, from-7, from-9, from-11}
 use Rattle.text.specs.Text.{as-byte}
 use Rattle.text.specs.Reading.{clipped, Clipping-does}
 use Rattle.text.proofs.Cuts.{points-long, triangles-long, kept-long, cut-points, cut-triangles, cut-kept, cut, cut-length, points-right-is}

@@ -8,8 +8,8 @@ use borrow.Author.Tests.{lt-leb, ltb-true, ltb-false}
 use lib.Dec.{leb, ltb, eqb}
 use lib.ListN.{length, take, length-map, length-take}
 use lib.IntN.{ℤ}
-use Rattle.laws.specs.Listed.{points-right}
-use Rattle.laws.proofs.Points.{points-count}
+use Rattle.laws.specs.inner.Listed.{points-right}
+use Rattle.laws.proofs.Checker.Points.{points-count}
 use Rattle.text.specs.Text.{as-byte}
 
 and-false : (a : Bool) {b : Bool} → b ≡ false → (a && b) ≡ false

@@ -11,7 +11,7 @@ use borrow.Author.Tests.{leb-true, le-leb, lt-leb, ltb-true}
 use lib.Dec.{leb, ltb, eqb, lit≤, lit<, leb·suc-suc, eqb·suc-suc}
 use lib.ListN.{length, getD, drop, drop-of-length-le}
 use lib.Seq.{drop-cons}
-use Rattle.laws.proofs.Tests.{contradiction, and-true, and-of, or-true}
+use Rattle.laws.proofs.Basics.Tests.{contradiction, and-true, and-of, or-true}
 use Rattle.text.specs.Text.{all-digits, well-begun, number-form, value-from, value}
 use Rattle.text.specs.Parsing.{Number-read}
 

@@ -8,7 +8,7 @@ use borrow.Author.Tests.{leb-true, ne-eqb, lt-ltb, le-ltb}
 use lib.Dec.{leb, ltb, eqb}
 use lib.ListN.{length, getD, drop}
 use lib.IntN.{ℤ, pos}
-use Rattle.laws.proofs.Tests.{contradiction, and-true, and-of}
+use Rattle.laws.proofs.Basics.Tests.{contradiction, and-true, and-of}
 use Rattle.text.specs.declared.field.Number.{Number}
 use Rattle.text.specs.declared.field.Field.{Field}
 use Rattle.text.specs.Text.{minus-sign, all-digits, well-begun, number-form, value, minus, coordinate-form, coordinate}

@@ -11,7 +11,7 @@ use lib.Dec.{leb, ltb, eqb}
 use lib.ListN.{length, take, drop, set, length-set}
 use lib.Seq.{take-suc-set, append-snoc}
 use lib.IntN.{ℤ}
-use Rattle.laws.proofs.Tests.{contradiction, and-of}
+use Rattle.laws.proofs.Basics.Tests.{contradiction, and-of}
 use Rattle.text.specs.declared.field.Field.{Field}
 use Rattle.text.specs.declared.line.Fields.{Fields}
 use Rattle.text.specs.Text.{comma, in-first, new-or-in-first, fields-of, all-fields, coordinate}

@@ -12,10 +12,10 @@ use Rattle.geometry.specs.Space.{points-in}
 use Rattle.geometry.specs.declared.tetrahedron.Four.{Four}
 use Rattle.laws.specs.Laws.{Job, place, entry, quality, worst, worst-from, fours-in}
 use Rattle.laws.specs.Check.{job, entry-bad, any-entry-bad}
-use Rattle.laws.specs.ListedFours.{fours-listed}
-use Rattle.laws.proofs.Tests.{or-false}
-use Rattle.laws.proofs.Lists.{Each, none, more}
-use Rattle.laws.proofs.Sorted.{Well-formed, law-1-well-formed, increasing}
+use Rattle.laws.specs.inner.ListedFours.{fours-listed}
+use Rattle.laws.proofs.Basics.Tests.{or-false}
+use Rattle.laws.proofs.Basics.Lists.{Each, none, more}
+use Rattle.laws.proofs.Order.Sorted.{Well-formed, law-1-well-formed, increasing}
 use Rattle.text.specs.Written.{Room, Writes, Prints}
 use Rattle.text.specs.Print.{letter-F, line-out, boundary-faces, H-line, H-lines, filling-out}
 use Rattle.text.specs.Printable.{Printable, Filled}

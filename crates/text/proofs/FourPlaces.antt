@@ -13,11 +13,11 @@ use Rattle.geometry.specs.Space.{four}
 use Rattle.geometry.specs.declared.tetrahedron.Four.{Four}
 use Rattle.laws.specs.Laws.{choose, place, rising, four-before, law-1}
 use Rattle.laws.specs.Fours.{from, rest, with-each, all-fours}
-use Rattle.laws.proofs.Tests.{and-true}
-use Rattle.laws.proofs.Lists.{Each, none, more, each-at-member, each-of-members}
-use Rattle.laws.proofs.Sorted.{Sorted, start, next, Well-formed, law-1-well-formed, law-1-sorted}
-use Rattle.laws.proofs.TablePlace.{getD-inside}
-use Rattle.laws.proofs.Places.{place-rises, place-below}
+use Rattle.laws.proofs.Basics.Tests.{and-true}
+use Rattle.laws.proofs.Basics.Lists.{Each, none, more, each-at-member, each-of-members}
+use Rattle.laws.proofs.Order.Sorted.{Sorted, start, next, Well-formed, law-1-well-formed, law-1-sorted}
+use Rattle.laws.proofs.Order.TablePlace.{getD-inside}
+use Rattle.laws.proofs.Order.Places.{place-rises, place-below}
 
 -- a test that holds at each number below n
 every : (n : ℕ) → (ℕ → Bool) → Bool

@@ -12,8 +12,8 @@ use Rattle.geometry.specs.Space.{points-in}
 use Rattle.laws.specs.Laws.{choose}
 use Rattle.laws.specs.Fours.{all-fours}
 use Rattle.laws.specs.Lists.{Lists, refusal-of}
-use Rattle.laws.proofs.Points.{points-count}
-use Rattle.laws.proofs.TablePlace.{fours-most}
+use Rattle.laws.proofs.Checker.Points.{points-count}
+use Rattle.laws.proofs.Order.TablePlace.{fours-most}
 use Rattle.text.specs.declared.run.Run.{Run}
 use Rattle.text.specs.declared.table.Entries.{Entries}
 use Rattle.text.specs.declared.read.Read.{Read}

@@ -5,7 +5,7 @@ use mathlib.Core.List.{List, [], _∷_, _++_, append-assoc}
 use Prim.Native.Nat.{ℕ}
 use borrow.Author.Tests.{eq-eqb}
 use lib.Dec.{eqb}
-use Rattle.laws.proofs.Lists.{Each, none, more}
+use Rattle.laws.proofs.Basics.Lists.{Each, none, more}
 use Rattle.text.specs.Text.{Line, only, fields-with}
 use Rattle.text.specs.Runs.{fields-in}
 

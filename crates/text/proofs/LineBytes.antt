@@ -9,7 +9,7 @@ use borrow.Author.Tests.{ne-eqb, eqb-true, eqb-false, not-true, not-false}
 use lib.Dec.{eqb}
 use lib.ListN.{length, getD, drop}
 use Rattle.laws.specs.Laws.{rising}
-use Rattle.laws.proofs.Tests.{contradiction, or-true, or-false}
+use Rattle.laws.proofs.Basics.Tests.{contradiction, or-true, or-false}
 use Rattle.text.specs.Text.{comma, in-first, new-or-in-first, fields-of, Line, letter-in, line-in, all-fields, four-in, line-form}
 use Rattle.text.specs.Parsing.{field-form, letter-kind, width}
 use Rattle.text.proofs.Splitting.{lacks-one, fields-split, fields-last}

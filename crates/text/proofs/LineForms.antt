@@ -8,7 +8,7 @@ use borrow.Author.Tests.{ne-eqb, eqb-true, eqb-false}
 use lib.Dec.{eqb}
 use lib.ListN.{length}
 use Rattle.laws.specs.Laws.{rising}
-use Rattle.laws.proofs.Tests.{contradiction, or-false-of}
+use Rattle.laws.proofs.Basics.Tests.{contradiction, or-false-of}
 use Rattle.text.specs.Text.{letter-P, letter-T, letter-E, letter-Q, number-form, coordinate-form, all-fields, line-form, kind, four-in}
 use Rattle.text.specs.Parsing.{field-form, letter-kind, width}
 

@@ -13,7 +13,7 @@ use lib.IntN.{ℤ, pos}
 use lib.Signed.{ltZ}
 use Rattle.geometry.specs.Space.{four}
 use Rattle.laws.specs.Laws.{rising}
-use Rattle.laws.proofs.Tests.{contradiction, and-true}
+use Rattle.laws.proofs.Basics.Tests.{contradiction, and-true}
 use Rattle.text.specs.declared.line.Fields.{Fields}
 use Rattle.text.specs.declared.line.Parsed.{Parsed}
 use Rattle.text.specs.Text.{Line, fields-of, number-form, value, coordinate, all-fields, line-form, kind, four-in}

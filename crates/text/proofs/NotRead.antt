@@ -9,7 +9,7 @@ use borrow.Author.Tests.{lt-leb, ltb-true, not-true}
 use lib.Dec.{leb, ltb}
 use lib.ListN.{length}
 use lib.IntN.{ℤ}
-use Rattle.laws.proofs.Tests.{contradiction, or-true}
+use Rattle.laws.proofs.Basics.Tests.{contradiction, or-true}
 use Rattle.text.specs.declared.read.Read.{Read}
 use Rattle.text.specs.Text.{text-lines, ends-well, lines-form, text-form, text-limit}
 use Rattle.text.specs.Reading.{Job-read}

@@ -8,8 +8,8 @@ use lib.Dec.{leb, eqb}
 use lib.IntN.{pos, negsuc}
 use Rattle.geometry.specs.declared.tetrahedron.Four.{Four}
 use Rattle.laws.specs.Check.{unmeasured}
-use Rattle.laws.proofs.Tests.{contradiction, and-true, and-of, or-false}
-use Rattle.laws.proofs.FourOrder.{four-equal}
+use Rattle.laws.proofs.Basics.Tests.{contradiction, and-true, and-of, or-false}
+use Rattle.laws.proofs.Order.FourOrder.{four-equal}
 use Rattle.text.specs.Text.{Line, four-in, value-in, same-four, has-four, Q-bad, Q-entry}
 
 -- ---- two fours are the same where their numbers are

@@ -11,7 +11,7 @@ use lib.ListN.{length, getD}
 use lib.IntN.{ℤ, pos}
 use Rattle.geometry.specs.Space.{four}
 use Rattle.laws.specs.Laws.{rising}
-use Rattle.laws.proofs.Tests.{contradiction, and-true, or-true}
+use Rattle.laws.proofs.Basics.Tests.{contradiction, and-true, or-true}
 use Rattle.text.specs.declared.run.Next.{Next}
 use Rattle.text.specs.Text.{letter-P, letter-T, letter-E, letter-Q, Line, number-form, coordinate-form, value, all-fields, four-in, value-in, line-form, kind}
 use Rattle.text.specs.Parsing.{width}

@@ -6,7 +6,7 @@ use Prim.Native.Nat.{ℕ, suc, _≤_, _<_}
 use native.Mathlib.Omega.{arith}
 use borrow.Author.Tests.{eqb-true, eqb-false, le-leb, lt-leb, leb-true, leb-false}
 use lib.Dec.{leb, eqb}
-use Rattle.laws.proofs.Tests.{contradiction, and-true}
+use Rattle.laws.proofs.Basics.Tests.{contradiction, and-true}
 use Rattle.text.specs.Text.{letter-P, letter-T, letter-E, Line, line-form, kind, lines-form}
 use Rattle.text.specs.Runs.{is-kind, after}
 

@@ -8,8 +8,8 @@ use borrow.Author.Tests.{eqb-true}
 use lib.Dec.{eqb}
 use lib.ListN.{length}
 use Rattle.laws.specs.Laws.{rising}
-use Rattle.laws.proofs.Tests.{and-true, or-true}
-use Rattle.laws.proofs.Lists.{Each, none, more}
+use Rattle.laws.proofs.Basics.Tests.{and-true, or-true}
+use Rattle.laws.proofs.Basics.Lists.{Each, none, more}
 use Rattle.text.specs.Text.{letter-P, letter-T, letter-E, letter-Q, Line, number-form, coordinate-form, all-fields, four-in, line-form, kind, only, fields-with}
 use Rattle.text.specs.Runs.{is-kind, run, after, fields-in}
 use Rattle.text.proofs.LetterLines.{fields-append, only-append, fields-same, only-same, fields-other, only-other}

@@ -10,7 +10,7 @@ use lib.Dec.{eqb}
 use lib.ListN.{length, take, drop}
 use lib.Seq.{take-all, length-take-le}
 use Rattle.laws.specs.Laws.{rising}
-use Rattle.laws.proofs.Tests.{and-true, or-true}
+use Rattle.laws.proofs.Basics.Tests.{and-true, or-true}
 use Rattle.text.specs.declared.run.Next.{Next}
 use Rattle.text.specs.Text.{letter-P, letter-T, letter-E, letter-Q, Line, text-lines, number-form, coordinate-form, all-fields, four-in, line-form, kind}
 use Rattle.text.specs.Parsing.{width}

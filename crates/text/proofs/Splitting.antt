@@ -9,7 +9,7 @@ use borrow.Author.Tests.{ne-eqb, not-true}
 use lib.Dec.{eqb}
 use lib.ListN.{length, getD, take, drop, length-drop, take-append-drop, drop-of-length-le}
 use lib.Seq.{take-suc, getD-drop, drop-cons, drop-drop}
-use Rattle.laws.proofs.Tests.{and-true, and-of, not-of}
+use Rattle.laws.proofs.Basics.Tests.{and-true, and-of, not-of}
 use Rattle.text.specs.Text.{LF, comma, in-first, new-or-in-first, lines-of, fields-of}
 use Rattle.text.specs.Parsing.{lacks, Found}
 

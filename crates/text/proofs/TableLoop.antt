@@ -14,10 +14,10 @@ use Rattle.geometry.specs.declared.tetrahedron.Four.{Four}
 use Rattle.laws.specs.Laws.{place, choose}
 use Rattle.laws.specs.Check.{unmeasured}
 use Rattle.laws.specs.Fours.{all-fours}
-use Rattle.laws.proofs.Tests.{and-true}
-use Rattle.laws.proofs.Sorted.{Well-formed}
-use Rattle.laws.proofs.Places.{place-below}
-use Rattle.laws.proofs.TablePlace.{fours-most, getD-inside}
+use Rattle.laws.proofs.Basics.Tests.{and-true}
+use Rattle.laws.proofs.Order.Sorted.{Well-formed}
+use Rattle.laws.proofs.Order.Places.{place-below}
+use Rattle.laws.proofs.Order.TablePlace.{fours-most, getD-inside}
 use Rattle.text.specs.declared.run.Next.{Next}
 use Rattle.text.specs.Text.{Line, text-lines, four-in, has-four, Q-bad, Q-entry}
 use Rattle.text.specs.Runs.{starts, run, after, Line-start, Line-at}

@@ -13,11 +13,11 @@ use Rattle.geometry.specs.declared.tetrahedron.Four.{Four}
 use Rattle.laws.specs.Laws.{place}
 use Rattle.laws.specs.Check.{unmeasured}
 use Rattle.laws.specs.Promise.{Places-right}
-use Rattle.laws.proofs.Tests.{contradiction, or-false}
-use Rattle.laws.proofs.Sorted.{Well-formed}
-use Rattle.laws.proofs.Places.{place-below}
-use Rattle.laws.proofs.TablePlace.{fours-most}
-use Rattle.laws.proofs.Promises.{places-right}
+use Rattle.laws.proofs.Basics.Tests.{contradiction, or-false}
+use Rattle.laws.proofs.Order.Sorted.{Well-formed}
+use Rattle.laws.proofs.Order.Places.{place-below}
+use Rattle.laws.proofs.Order.TablePlace.{fours-most}
+use Rattle.laws.proofs.Choice.Promises.{places-right}
 use Rattle.text.specs.Text.{Line, four-in, value-in, same-four, has-four, Q-entry}
 use Rattle.text.specs.Runs.{is-kind}
 use Rattle.text.proofs.QLines.{same-four-true, same-four-of, entry-unmeasured, entry-other, entry-new}

@@ -9,13 +9,13 @@ use Rattle.geometry.specs.Space.{points-in, turned}
 use Rattle.geometry.specs.declared.tetrahedron.Four.{Four}
 use Rattle.laws.specs.Laws.{Job, faces, entry, quality}
 use Rattle.laws.specs.Check.{job}
-use Rattle.laws.specs.Listed.{triangles-in}
-use Rattle.laws.specs.ListedFours.{fours-listed, four-at, fours-from}
-use Rattle.laws.specs.Unmeasured.{Ordered}
-use Rattle.laws.specs.FaceFlags.{flag-all}
-use Rattle.laws.proofs.Sorted.{law-1-well-formed}
-use Rattle.laws.proofs.FourList.{fours-start, fours-more, fours-done, each-at, ordered-at, ordered-is, ordered-present}
-use Rattle.laws.proofs.FaceFlags.{no-flags}
+use Rattle.laws.specs.inner.Listed.{triangles-in}
+use Rattle.laws.specs.inner.ListedFours.{fours-listed, four-at, fours-from}
+use Rattle.laws.specs.inner.Unmeasured.{Ordered}
+use Rattle.laws.specs.inner.FaceFlags.{flag-all}
+use Rattle.laws.proofs.Order.Sorted.{law-1-well-formed}
+use Rattle.laws.proofs.Judge.FourList.{fours-start, fours-more, fours-done, each-at, ordered-at, ordered-is, ordered-present}
+use Rattle.laws.proofs.Faces.FaceFlags.{no-flags}
 use Rattle.text.specs.Written.{Room, Writes}
 use Rattle.text.specs.Print.{letter-H, line-out, boundary-faces, H-fields, H-line, H-lines}
 use Rattle.text.specs.Printable.{count-flagged, Printable}

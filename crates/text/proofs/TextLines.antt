@@ -7,7 +7,7 @@ use native.Mathlib.Omega.{arith}
 use borrow.Author.Tests.{eqb-true, not-true, ltb-true, ltb-false}
 use lib.Dec.{ltb, eqb}
 use lib.ListN.{length, getD, take, drop, drop-of-length-le, length-drop, length-map}
-use Rattle.laws.proofs.Tests.{contradiction, and-true}
+use Rattle.laws.proofs.Basics.Tests.{contradiction, and-true}
 use Rattle.text.specs.declared.line.Parsed.{Parsed}
 use Rattle.text.specs.declared.run.Next.{Next}
 use Rattle.text.specs.Text.{LF, in-first, new-or-in-first, Line, fields-of, line-in, lines-of, ends-well, text-lines, line-form, kind}

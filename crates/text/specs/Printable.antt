@@ -9,9 +9,9 @@ use Rattle.geometry.specs.Space.{points-in}
 use Rattle.geometry.specs.declared.tetrahedron.Four.{Four}
 use Rattle.laws.specs.Laws.{Tri, law-1, worst, fours-in}
 use Rattle.laws.specs.Check.{job, any-tri-bad, any-entry-bad}
-use Rattle.laws.specs.Listed.{triangles-in}
-use Rattle.laws.specs.Unmeasured.{Tabled}
-use Rattle.laws.specs.FaceFlags.{flagged}
+use Rattle.laws.specs.inner.Listed.{triangles-in}
+use Rattle.laws.specs.inner.Unmeasured.{Tabled}
+use Rattle.laws.specs.inner.FaceFlags.{flagged}
 
 -- a table for the points, a boundary of present points, qualities of at most 1,000,000, and increasing fours of present points
 pub record Printable (points : List ℤ) (triangles : List ℕ) (table : List ℤ) (fs : List Four) : Type 0 where

@@ -2,10 +2,10 @@
 // Assumes nothing.
 use geometry::tetrahedron::Four;
 use geometry::tetrahedron::oriented;
-use laws::faces::raise_boundary;
-use laws::flags::is_flagged;
-use laws::fours::four_at;
-use laws::quality::quality_of;
+use judge::faces::raise_boundary;
+use judge::flags::is_flagged;
+use judge::fours::four_at;
+use judge::quality::quality_of;
 ghost use mathlib.Core.Path.{_≡_};
 ghost use mathlib.Core.Bool.{cond};
 ghost use mathlib.Core.List.{[], _∷_};
@@ -15,7 +15,7 @@ ghost use Rattle.geometry.specs.Space.{points-in, turned};
 ghost use Rattle.geometry.specs.Range.{Present};
 ghost use Rattle.laws.specs.Laws.{faces, fours-in};
 ghost use Rattle.laws.specs.Check.{job};
-ghost use Rattle.laws.specs.ListedFours.{fours-listed};
+ghost use Rattle.laws.specs.inner.ListedFours.{fours-listed};
 ghost use Rattle.text.specs.Written.{Room, Writes, Prints};
 ghost use Rattle.text.specs.Print.{letter-H, decimal, line-out, H-fields, H-lines, filling-out, refusal-out};
 ghost use Rattle.text.specs.Printable.{count-flagged, Printable, Filled};

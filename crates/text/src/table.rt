@@ -1,8 +1,8 @@
 // Q lines: the table of qualities. A four without a Q is unmeasured; a Q for an absent four and a second Q for one are told apart from it (document 01, number 11).
 // Assumes nothing.
 use crate::run::next_line;
+use checker::table::place;
 use geometry::tetrahedron::Four;
-use laws::table::place;
 ghost use mathlib.Core.Path.{_≡_};
 ghost use mathlib.Core.Bool.{true};
 ghost use Prim.Native.Nat.{_≤_};

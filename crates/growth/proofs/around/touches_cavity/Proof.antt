@@ -3,7 +3,7 @@ use mathlib.Core.Path.{_≡_, refl, sym, _∙_}
 use Prim.Native.Nat.{_≤_, _-_, _/_}
 use native.Mathlib.Omega.{arith}
 use lib.ListN.{length, drop}
-use Rattle.laws.proofs.Scan.{hit, miss}
+use Rattle.laws.proofs.Basics.Scan.{hit, miss}
 use Rattle.bench_rules.specs.Bench.{mesh-fours, touches}
 use Rattle.bench_rules.specs.Marks.{marked}
 use Rattle.growth.proofs.Touching.{touch-step, touch-end}

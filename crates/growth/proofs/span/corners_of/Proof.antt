@@ -3,7 +3,7 @@ use mathlib.Core.Path.{_≡_}
 use mathlib.Core.Logic.{⊎-elim}
 use Prim.Native.Nat.{_≤_, _-_}
 use native.Mathlib.Omega.{arith}
-use Rattle.laws.specs.ListedFours.{four-at}
+use Rattle.laws.specs.inner.ListedFours.{four-at}
 use Rattle.bench_rules.specs.Bench.{points-of}
 use Rattle.growth.proofs.Marking.{Marks-to, marks-to-none, marks-to-more, marks-to-same, marks-to-all}
 use Rattle.growth.proofs.Spanning.{is-corner-at, corner-at}

@@ -4,7 +4,7 @@ use mathlib.Core.Bool.{_&&_}
 use Prim.Native.Nat.{_≤_, _-_}
 use lib.Dec.{ltb}
 use lib.ListN.{length}
-use Rattle.laws.proofs.Passes.{fails, passes}
+use Rattle.laws.proofs.Basics.Passes.{fails, passes}
 use Rattle.bench_rules.specs.Bench.{mesh-fours, same-numbers, points-of}
 use Rattle.bench_rules.specs.Marks.{marked}
 use Rattle.mesh.proofs.CavityTests.{points-left, points-start, points-test, points-end, alike-is}

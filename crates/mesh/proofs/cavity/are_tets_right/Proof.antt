@@ -2,7 +2,7 @@
 use mathlib.Core.Path.{_≡_, refl, sym, _∙_}
 use Prim.Native.Nat.{_≤_, _-_}
 use lib.ListN.{length}
-use Rattle.laws.proofs.Passes.{fails, passes}
+use Rattle.laws.proofs.Basics.Passes.{fails, passes}
 use Rattle.bench_rules.specs.Bench.{mesh-fours, same-numbers, tets-in}
 use Rattle.bench_rules.specs.Marks.{marked}
 use Rattle.mesh.proofs.CavityTests.{tets-left, tets-start, tets-test, tets-end, alike-is}

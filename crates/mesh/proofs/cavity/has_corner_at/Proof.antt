@@ -1,7 +1,7 @@
 -- `mesh::cavity::has_corner_at` meets its contract. Assumes nothing.
 use lib.ListN.{getD}
 use Rattle.laws.specs.Laws.{corner-of}
-use Rattle.laws.specs.ListedFours.{four-at}
+use Rattle.laws.specs.inner.ListedFours.{four-at}
 use Rattle.mesh.proofs.MarkTests.{corner-unmarked, corner-marked}
 use borrow.Author.Needs.{needs}
 use Rattle.mesh.proofs.cavity.has_corner_at.Statement.{statement}

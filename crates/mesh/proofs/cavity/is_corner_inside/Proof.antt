@@ -2,7 +2,7 @@
 use mathlib.Core.Path.{_≡_, refl, sym, _∙_}
 use Prim.Native.Nat.{_≤_, _-_, _/_}
 use lib.ListN.{length}
-use Rattle.laws.proofs.Scan.{hit, miss}
+use Rattle.laws.proofs.Basics.Scan.{hit, miss}
 use Rattle.bench_rules.specs.Bench.{mesh-fours, corner-of-any}
 use Rattle.bench_rules.specs.Marks.{marked}
 use Rattle.mesh.proofs.MarkTests.{corner-left, corner-start, corner-step, corner-end}

@@ -5,7 +5,7 @@ use Prim.Native.Nat.{_≤_, _-_}
 use lib.ListN.{length, take, drop}
 use Rattle.geometry.specs.Space.{points-in}
 use Rattle.laws.specs.Laws.{all-faces, once}
-use Rattle.laws.proofs.Passes.{fails, passes}
+use Rattle.laws.proofs.Basics.Passes.{fails, passes}
 use Rattle.bench_rules.specs.Bench.{mesh-fours}
 use Rattle.mesh.specs.Codes.{all-different}
 use Rattle.mesh.proofs.FaceNumbers.{once-by-numbers, numbers-long}

@@ -4,7 +4,7 @@ use Prim.Native.Nat.{suc, _≤_, _-_}
 use native.Mathlib.Numerals.{add-one}
 use borrow.Author.Tests.{eq-eqb, ne-eqb}
 use lib.ListN.{getD, take, drop}
-use Rattle.laws.proofs.Scan.{hit, miss}
+use Rattle.laws.proofs.Basics.Scan.{hit, miss}
 use Rattle.bench_rules.specs.Bench.{member}
 use Rattle.mesh.proofs.Repeats.{taken-step, taken-end}
 use native.Mathlib.Omega.{arith}

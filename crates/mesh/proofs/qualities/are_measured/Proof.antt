@@ -8,8 +8,8 @@ use mathlib.Core.Bool.{not}
 use lib.Dec.{eqb}
 use Rattle.geometry.specs.Space.{points-in}
 use Rattle.geometry.specs.Measure.{four-quality}
-use Rattle.laws.specs.ListedFours.{fours-from}
-use Rattle.laws.proofs.Passes.{fails, passes}
+use Rattle.laws.specs.inner.ListedFours.{fours-from}
+use Rattle.laws.proofs.Basics.Passes.{fails, passes}
 use Rattle.bench_rules.specs.Bench.{mesh-qualities, same-numbers}
 use Rattle.bench_rules.proofs.MeshFours.{present-at}
 use Rattle.mesh.proofs.Measured.{measured-start, measured-test, measured-end, measured-length}

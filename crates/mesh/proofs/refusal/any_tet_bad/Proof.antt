@@ -3,8 +3,8 @@ use mathlib.Core.Path.{_≡_, refl, sym, ap, _∙_}
 use Prim.Native.Nat.{_≤_, _-_, _/_}
 use lib.ListN.{length}
 use Rattle.geometry.specs.Space.{points-in}
-use Rattle.laws.specs.ListedFours.{fours-from}
-use Rattle.laws.proofs.Scan.{hit, miss}
+use Rattle.laws.specs.inner.ListedFours.{fours-from}
+use Rattle.laws.proofs.Basics.Scan.{hit, miss}
 use Rattle.bench_rules.specs.Bench.{mesh-fours, tet-bad, any-tet-bad}
 use Rattle.bench_rules.proofs.MeshFours.{mesh-start}
 use Rattle.mesh.proofs.Refusing.{bad-step, bad-end}

@@ -6,7 +6,7 @@ use Prim.Native.Nat.{ℕ}
 use borrow.Author.Tests.{not-false}
 use lib.IntN.{ℤ}
 use Rattle.geometry.specs.Range.{any-far}
-use Rattle.laws.proofs.Order.{stop, pass}
+use Rattle.laws.proofs.Checker.Chain.{stop, pass}
 use Rattle.bench_rules.specs.Bench.{mesh-refusal}
 use Rattle.mesh.specs.Sizes.{points-right}
 use Rattle.mesh.proofs.Refusing.{from-3, from-4, from-17, from-18, from-19, at-2, at-3, at-4, at-17, at-18, at-19, few-points, sound-mesh}

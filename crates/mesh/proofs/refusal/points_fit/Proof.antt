@@ -1,6 +1,6 @@
 -- `mesh::refusal::points_fit` meets its contract. Assumes nothing.
 use mathlib.Core.Path.{refl}
-use Rattle.laws.proofs.Points.{points-count}
+use Rattle.laws.proofs.Checker.Points.{points-count}
 use Rattle.mesh.proofs.refusal.points_fit.Statement.{statement}
 use Rattle.mesh.proofs.refusal.points_fit.Tie as tie
 

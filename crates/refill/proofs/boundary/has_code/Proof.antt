@@ -5,7 +5,7 @@ use native.Mathlib.Omega.{arith}
 use borrow.Author.Needs.{needs}
 use borrow.Author.Tests.{eq-eqb, ne-eqb}
 use lib.ListN.{length, getD, drop}
-use Rattle.laws.proofs.Scan.{hit, miss}
+use Rattle.laws.proofs.Basics.Scan.{hit, miss}
 use Rattle.bench_rules.specs.Bench.{member}
 use Rattle.refill.proofs.BoundaryFaces.{member-step, member-end}
 use Rattle.refill.proofs.boundary.has_code.Statement.{statement}

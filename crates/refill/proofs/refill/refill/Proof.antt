@@ -3,7 +3,7 @@ use mathlib.Core.Path.{sym}
 use Prim.Native.Nat.{ℕ}
 use native.Mathlib.Omega.{arith}
 use borrow.Author.Needs.{needs, length-unmapped}
-use Rattle.laws.proofs.Conditions.{keeps}
+use Rattle.laws.proofs.Choice.Conditions.{keeps}
 use Rattle.bench_rules.proofs.Entries.{array-room, array-counted}
 use Rattle.refill.proofs.OpenCavity.{tets-few}
 use Rattle.refill.proofs.CavityArrays.{points-held}

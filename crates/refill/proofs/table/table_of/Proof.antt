@@ -7,7 +7,7 @@ use mir.Val.{SFits}
 use mir.Facts.{toZ-ofZ}
 use lib.ListN.{length}
 use Rattle.geometry.specs.Space.{four}
-use Rattle.laws.proofs.Points.{points-count}
+use Rattle.laws.proofs.Checker.Points.{points-count}
 use Rattle.refill.proofs.TableLoop.{Tabled-so-far, table-start, table-stage, table-present, table-room, table-next, table-end, table-at}
 use Rattle.refill.proofs.table.table_of.Statement.{statement}
 use Rattle.refill.proofs.table.table_of.Tie as tie

@@ -1,6 +1,6 @@
 -- `search::codes::flip` meets its contract. Assumes nothing.
 use mathlib.Core.Path.{refl}
-use Rattle.laws.specs.FaceCodes.{flip-code}
+use Rattle.laws.specs.inner.FaceCodes.{flip-code}
 use native.Mathlib.Omega.{arith}
 use borrow.Author.Needs.{needs}
 use Rattle.search.proofs.codes.flip.Statement.{statement}

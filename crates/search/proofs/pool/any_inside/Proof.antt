@@ -6,7 +6,7 @@ use native.Mathlib.Omega.{arith}
 use lib.ListN.{drop}
 use Rattle.geometry.specs.Space.{points-in}
 use Rattle.laws.specs.Laws.{none-inside}
-use Rattle.laws.proofs.Scan.{hit, miss}
+use Rattle.laws.proofs.Basics.Scan.{hit, miss}
 use Rattle.search.proofs.Standing.{inside-step, inside-end}
 use Rattle.search.proofs.pool.any_inside.Statement.{statement}
 use Rattle.search.proofs.pool.any_inside.Tie as tie

@@ -5,8 +5,8 @@ use native.Mathlib.Omega.{arith}
 use lib.ListN.{length}
 use Rattle.geometry.specs.Space.{points-in}
 use Rattle.laws.specs.Check.{job}
-use Rattle.laws.specs.Listed.{edges-from}
-use Rattle.laws.proofs.Scan.{hit, miss}
+use Rattle.laws.specs.inner.Listed.{edges-from}
+use Rattle.laws.proofs.Basics.Scan.{hit, miss}
 use Rattle.search.specs.Pierce.{pierced}
 use Rattle.search.proofs.Piercing.{pierced-start, pierced-step, pierced-end}
 use Rattle.search.proofs.pool.is_pierced.Statement.{statement}

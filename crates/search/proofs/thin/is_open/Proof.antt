@@ -1,6 +1,6 @@
 -- `search::thin::is_open` meets its contract. Assumes nothing.
 use mathlib.Core.Path.{_≡_, refl}
-use Rattle.laws.specs.FaceCodes.{flip-code}
+use Rattle.laws.specs.inner.FaceCodes.{flip-code}
 use mathlib.Core.Bool.{false, not}
 use mathlib.Core.List.{List}
 use Prim.Native.Nat.{ℕ, _≤_, _<_}

@@ -7,7 +7,7 @@ use borrow.Rule.Slice.PartAt.{part-to-end}
 use borrow.Author.Needs.{needs}
 use borrow.Author.Tests.{not-true, not-false}
 use mir.Facts.{toZ-ofZ}
-use Rattle.laws.proofs.Tests.{and-true}
+use Rattle.laws.proofs.Basics.Tests.{and-true}
 use Rattle.text.specs.Parsing.{has-minus, Negative-read, Field-read}
 use Rattle.text.proofs.FieldForms.{minus-long, field-minus, refused-field, taken-field}
 use Rattle.text.proofs.field.field_in.Statement.{statement}

@@ -8,7 +8,7 @@ use lib.Dec.{ltb, lit<}
 use lib.ListN.{length, getD, drop}
 use Rattle.text.specs.Text.{value-from, value, all-digits, well-begun}
 use Rattle.text.proofs.Digits.{refused-number, not-begun, begun, begun-short, digits-more, digits-end, digits-whole, value-more, value-whole, tenfold, seven-digits, six-digits, value-start, no-digit}
-use Rattle.laws.proofs.Tests.{or-false}
+use Rattle.laws.proofs.Basics.Tests.{or-false}
 use Rattle.text.proofs.field.number_in.Statement.{statement}
 use Rattle.text.proofs.field.number_in.Tie as tie
 

@@ -6,8 +6,8 @@ use native.Mathlib.Omega.{arith}
 use lib.ListN.{length}
 use Rattle.geometry.specs.Space.{points-in}
 use Rattle.laws.specs.Check.{job}
-use Rattle.laws.specs.ListedFours.{fours-listed, fours-from}
-use Rattle.laws.proofs.Refusal.{all-within}
+use Rattle.laws.specs.inner.ListedFours.{fours-listed, fours-from}
+use Rattle.laws.proofs.Checker.Refusal.{all-within}
 use Rattle.text.specs.Print.{H-lines}
 use Rattle.text.proofs.Writing.{Pending}
 use Rattle.text.proofs.Tetrahedra.{ordered, present, line-room, next-line, lines-start, lines-written}

@@ -6,7 +6,7 @@ use native.Mathlib.Omega.{arith}
 use borrow.Author.Tests.{ltb-false, not-false}
 use lib.Dec.{ltb}
 use lib.ListN.{length}
-use Rattle.laws.proofs.Tests.{or-false}
+use Rattle.laws.proofs.Basics.Tests.{or-false}
 use Rattle.text.specs.Text.{ends-well}
 use Rattle.text.specs.Parsing.{width}
 use Rattle.text.proofs.JobLists.{lines-remain, job-read}

@@ -8,8 +8,8 @@ use lib.ListN.{length}
 use mir.Facts.{toZ-ofZ}
 use Rattle.geometry.specs.declared.tetrahedron.Four.{Four}
 use Rattle.laws.specs.Laws.{rising}
-use Rattle.laws.proofs.Places.{place-below}
-use Rattle.laws.proofs.TablePlace.{fours-most}
+use Rattle.laws.proofs.Order.Places.{place-below}
+use Rattle.laws.proofs.Order.TablePlace.{fours-most}
 use Rattle.text.proofs.Entering.{ordered-of, absent-entry, second-entry, first-entry}
 use Rattle.text.proofs.table.enter.Statement.{statement}
 use Rattle.text.proofs.table.enter.Tie as tie

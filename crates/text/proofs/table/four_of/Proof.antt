@@ -3,7 +3,7 @@ use mathlib.Core.Path.{ap, _∙_}
 use borrow.Author.Needs.{needs}
 use mir.Facts.{toZ-ofZ}
 use Rattle.geometry.specs.Space.{four}
-use Rattle.laws.proofs.FourOrder.{four-equal}
+use Rattle.laws.proofs.Order.FourOrder.{four-equal}
 use Rattle.text.specs.Entries.{whole, four-of}
 use Rattle.text.proofs.table.four_of.Statement.{statement}
 use Rattle.text.proofs.table.four_of.Tie as tie

@@ -1,0 +1,90 @@
+-- `checker::boundary::is_same_three` meets its contract. Assumes nothing.
+use mathlib.Core.Path.{refl}
+use borrow.Author.Needs.{needs}
+use Rattle.laws.specs.Laws.{tri, reversed}
+use Rattle.checker.proofs.boundary.is_same_three.Statement.{statement}
+use Rattle.checker.proofs.boundary.is_same_three.Tie as tie
+
+mul-byte : tie.Need-mul-byte
+mul-byte c = search needs
+
+byte-requires : tie.Need-byte-requires
+byte-requires c κs = search needs
+
+mul-byte-2 : tie.Need-mul-byte-2
+mul-byte-2 c = search needs
+
+add-byte : tie.Need-add-byte
+add-byte c = search needs
+
+byte-requires-2 : tie.Need-byte-requires-2
+byte-requires-2 c κs = search needs
+
+mul-byte-3 : tie.Need-mul-byte-3
+mul-byte-3 c = search needs
+
+add-byte-2 : tie.Need-add-byte-2
+add-byte-2 c = search needs
+
+byte-requires-3 : tie.Need-byte-requires-3
+byte-requires-3 c κs = search needs
+
+mul-byte-4 : tie.Need-mul-byte-4
+mul-byte-4 c = search needs
+
+byte-requires-4 : tie.Need-byte-requires-4
+byte-requires-4 c κs = search needs
+
+mul-byte-5 : tie.Need-mul-byte-5
+mul-byte-5 c = search needs
+
+add-byte-3 : tie.Need-add-byte-3
+add-byte-3 c = search needs
+
+byte-requires-5 : tie.Need-byte-requires-5
+byte-requires-5 c κs = search needs
+
+mul-byte-6 : tie.Need-mul-byte-6
+mul-byte-6 c = search needs
+
+add-byte-4 : tie.Need-add-byte-4
+add-byte-4 c = search needs
+
+byte-requires-6 : tie.Need-byte-requires-6
+byte-requires-6 c κs = search needs
+
+is-same-tri-requires : tie.Need-is-same-tri-requires
+is-same-tri-requires c κs = search needs
+
+is-same-tri-requires-2 : tie.Need-is-same-tri-requires-2
+is-same-tri-requires-2 c κs = search needs
+
+returns : tie.Need-returns
+unfolding tri reversed
+returns c =
+    let s = c .before .before in
+    rw (c .before .is-same-tri .ensures, c .is-same-tri2 .ensures, s .before .before .before .before .before .byte .ensures, s .before .before .before .before .byte2 .ensures, s .before .before .before .byte3 .ensures, s .before .before .byte4 .ensures, s .before .byte5 .ensures, s .byte6 .ensures) refl
+
+pub is-same-three-spec : {M : Type 1} → statement M
+is-same-three-spec =
+    tie.close
+    (tie.spec
+    mul-byte
+    byte-requires
+    mul-byte-2
+    add-byte
+    byte-requires-2
+    mul-byte-3
+    add-byte-2
+    byte-requires-3
+    mul-byte-4
+    byte-requires-4
+    mul-byte-5
+    add-byte-3
+    byte-requires-5
+    mul-byte-6
+    add-byte-4
+    byte-requires-6
+    is-same-tri-requires
+    is-same-tri-requires-2
+    returns)

@@ -1,0 +1,229 @@
+-- `checker::check::check_job` meets its contract: each test is one link of the chain of numbers. Assumes nothing.
+use mathlib.Core.Path.{_≡_, refl, sym, ap, _∙_}
+use mathlib.Core.Bool.{false, not}
+use mathlib.Core.List.{List}
+use Prim.Native.Nat.{ℕ, _/_, _≤_}
+use native.Mathlib.Omega.{arith}
+use borrow.Author.Tests.{not-false, eqb-true}
+use lib.ListN.{length}
+use lib.IntN.{ℤ}
+use Rattle.geometry.specs.Range.{any-far}
+use Rattle.laws.specs.Laws.{choose}
+use Rattle.laws.specs.Check.{job-refusal}
+use Rattle.laws.proofs.Checker.Points.{points-count}
+use Rattle.laws.proofs.Checker.Refusal.{Few, points-few, triangles-few, all-within}
+use Rattle.laws.proofs.Checker.Chain.{stop, pass, at-2, at-3, at-4, at-5, at-6, at-7, at-8, at-9, at-10, at-11, at-12, at-13, from-3, from-4, from-5, from-6, from-7, from-8, from-9, from-10, from-11, from-12, from-13}
+use Rattle.checker.proofs.check.check_job.Statement.{statement}
+use Rattle.checker.proofs.check.check_job.Tie as tie
+
+-- where the function starts, seen from each test passed
+abbrev start-2 : tie.Else1 → tie.Start
+start-2 c = c .before .before .before .before
+
+abbrev start-3 : tie.Else2 → tie.Start
+start-3 c = start-2 (c .before .before)
+
+abbrev start-4 : tie.Else3 → tie.Start
+start-4 c = start-3 (c .before .before)
+
+abbrev start-5 : tie.Else4 → tie.Start
+start-5 c = start-4 (c .before .before)
+
+abbrev start-6 : tie.Else5 → tie.Start
+start-6 c = start-5 (c .before .before)
+
+abbrev start-7 : tie.Else6 → tie.Start
+start-7 c = start-6 (c .before .before)
+
+abbrev start-8 : tie.Else7 → tie.Start
+start-8 c = start-7 (c .before .before)
+
+abbrev start-9 : tie.Else8 → tie.Start
+start-9 c = start-8 (c .before .before)
+
+abbrev start-10 : tie.Else9 → tie.Start
+start-10 c = start-9 (c .before .before)
+
+abbrev start-11 : tie.Else10 → tie.Start
+start-11 c = start-10 (c .before .before)
+
+abbrev start-12 : tie.Else11 → tie.Start
+start-12 c = start-11 (c .before .before)
+
+abbrev start-13 : tie.Else12 → tie.Start
+start-13 c = start-12 (c .before .before)
+
+-- the answer is what the chain of numbers still has to say
+abbrev Left : (List ℤ → List ℕ → List ℕ → List ℤ → ℕ) → tie.Start → Type 0
+Left rest s =
+    let x = s .args in
+    job-refusal (x .points .now) (x .triangles .now) (x .kept .now) (x .table .now) ≡ rest (x .points .now) (x .triangles .now) (x .kept .now) (x .table .now)
+
+abbrev link : {Link : List ℤ → List ℕ → List ℕ → List ℤ → Type 0} → ((cs : List ℤ) (ts es : List ℕ) (qs : List ℤ) → Link cs ts es qs) → (s : tie.Start) → Link (s .args .points .now) (s .args .triangles .now) (s .args .kept .now) (s .args .table .now)
+link at s = at (s .args .points .now) (s .args .triangles .now) (s .args .kept .now) (s .args .table .now)
+
+passed-2 : (c : tie.Else1) → Left from-3 (start-2 c)
+passed-2 c = pass refl (link at-2 (start-2 c)) (ap not (c .before .points-fit .ensures)) (c .if1 .left)
+
+passed-3 : (c : tie.Else2) → Left from-4 (start-3 c)
+passed-3 c = pass (passed-2 (c .before .before)) (link at-3 (start-3 c)) (c .before .any-far .ensures) (c .if2 .left)
+
+passed-4 : (c : tie.Else3) → Left from-5 (start-4 c)
+passed-4 c = pass (passed-3 (c .before .before)) (link at-4 (start-4 c)) (c .before .two-alike .ensures) (c .if3 .left)
+
+passed-5 : (c : tie.Else4) → Left from-6 (start-5 c)
+passed-5 c = pass (passed-4 (c .before .before)) (link at-5 (start-5 c)) (ap not (c .before .triangles-fit .ensures)) (c .if4 .left)
+
+passed-6 : (c : tie.Else5) → Left from-7 (start-6 c)
+passed-6 c = pass (passed-5 (c .before .before)) (link at-6 (start-6 c)) (c .before .any-tri-bad .ensures) (c .if5 .left)
+
+passed-7 : (c : tie.Else6) → Left from-8 (start-7 c)
+passed-7 c = pass (passed-6 (c .before .before)) (link at-7 (start-7 c)) (c .before .tris-alike .ensures) (c .if6 .left)
+
+passed-8 : (c : tie.Else7) → Left from-9 (start-8 c)
+passed-8 c = pass (passed-7 (c .before .before)) (link at-8 (start-8 c)) (c .before .unmatched .ensures) (c .if7 .left)
+
+passed-9 : (c : tie.Else8) → Left from-10 (start-9 c)
+passed-9 c = pass (passed-8 (c .before .before)) (link at-9 (start-9 c)) (ap not (c .before .kept-fit .ensures)) (c .if8 .left)
+
+passed-10 : (c : tie.Else9) → Left from-11 (start-10 c)
+passed-10 c = pass (passed-9 (c .before .before)) (link at-10 (start-10 c)) (c .before .any-edge-bad .ensures) (c .if9 .left)
+
+passed-11 : (c : tie.Else10) → Left from-12 (start-11 c)
+passed-11 c = pass (passed-10 (c .before .before)) (link at-11 (start-11 c)) (ap not (c .before .table-fits .ensures)) (c .if10 .left)
+
+passed-12 : (c : tie.Else11) → Left from-13 (start-12 c)
+passed-12 c = pass (passed-11 (c .before .before)) (link at-12 (start-12 c)) (c .before .any-entry-bad .ensures) (c .if11 .left)
+
+passed-13 : (c : tie.Else12) → Left (λ _ _ _ _. 0) (start-13 c)
+passed-13 c = pass (passed-12 (c .before .before)) (link at-13 (start-13 c)) (c .before .solid-unmeasured .ensures) (c .if12 .left)
+
+-- what the first tests tell the later ones
+few-points : (c : tie.Else1) → Few (start-2 c .args .points .now)
+few-points c =
+    points-few (start-2 c .args .points .now) (sym (c .before .points-fit .ensures) ∙ not-false (c .before .points-fit .result) (c .if1 .left))
+
+few-count : (c : tie.Else1) → length (start-2 c .args .points .now) / 3 ≤ 16
+few-count c = let f = few-points c in let e = points-count (start-2 c .args .points .now) in omega (arith, f .few)
+
+few-triangles : (c : tie.Else4) → length (start-5 c .args .triangles .now) / 3 ≤ 560
+few-triangles c =
+    triangles-few (start-5 c .args .triangles .now) (sym (c .before .triangles-fit .ensures) ∙ not-false (c .before .triangles-fit .result) (c .if4 .left))
+
+points-near : (c : tie.Else2) → any-far (start-3 c .args .points .now) ≡ false
+points-near c = sym (c .before .any-far .ensures) ∙ c .if2 .left
+
+points-fit-requires : tie.Need-points-fit-requires
+points-fit-requires c κs = tt
+
+returns : tie.Need-returns
+returns c = stop refl (link at-2 (c .before .before .before .before)) (ap not (c .before .points-fit .ensures)) (c .if1 .taken)
+
+any-far-requires : tie.Need-any-far-requires
+any-far-requires c κs = tt
+
+returns-2 : tie.Need-returns-2
+returns-2 c = stop (passed-2 (c .before .before)) (link at-3 (start-2 (c .before .before))) (c .before .any-far .ensures) (c .if2 .taken)
+
+two-alike-requires : tie.Need-two-alike-requires
+two-alike-requires c κs = let s = few-points (c .before .before) .short in omega (arith, s)
+
+returns-3 : tie.Need-returns-3
+returns-3 c = stop (passed-3 (c .before .before)) (link at-4 (start-3 (c .before .before))) (c .before .two-alike .ensures) (c .if3 .taken)
+
+triangles-fit-requires : tie.Need-triangles-fit-requires
+triangles-fit-requires c κs = tt
+
+returns-4 : tie.Need-returns-4
+returns-4 c = stop (passed-4 (c .before .before)) (link at-5 (start-4 (c .before .before))) (ap not (c .before .triangles-fit .ensures)) (c .if4 .taken)
+
+any-tri-bad-requires : tie.Need-any-tri-bad-requires
+any-tri-bad-requires c κs = tt
+
+returns-5 : tie.Need-returns-5
+returns-5 c = stop (passed-5 (c .before .before)) (link at-6 (start-5 (c .before .before))) (c .before .any-tri-bad .ensures) (c .if5 .taken)
+
+tris-alike-requires : tie.Need-tris-alike-requires
+tris-alike-requires c κs = tt
+
+returns-6 : tie.Need-returns-6
+returns-6 c = stop (passed-6 (c .before .before)) (link at-7 (start-6 (c .before .before))) (c .before .tris-alike .ensures) (c .if6 .taken)
+
+unmatched-requires : tie.Need-unmatched-requires
+unmatched-requires c κs =
+    let n = c .before .before in
+    (few-triangles (n .before .before), all-within (length (start-6 n .args .points .now) / 3) (start-6 n .args .triangles .now) (few-count (n .before .before .before .before .before .before .before .before)) (sym (n .before .any-tri-bad .ensures) ∙ n .if5 .left))
+
+returns-7 : tie.Need-returns-7
+returns-7 c = stop (passed-7 (c .before .before)) (link at-8 (start-7 (c .before .before))) (c .before .unmatched .ensures) (c .if7 .taken)
+
+kept-fit-requires : tie.Need-kept-fit-requires
+kept-fit-requires c κs = tt
+
+returns-8 : tie.Need-returns-8
+returns-8 c = stop (passed-8 (c .before .before)) (link at-9 (start-8 (c .before .before))) (ap not (c .before .kept-fit .ensures)) (c .if8 .taken)
+
+any-edge-bad-requires : tie.Need-any-edge-bad-requires
+any-edge-bad-requires c κs = tt
+
+returns-9 : tie.Need-returns-9
+returns-9 c = stop (passed-9 (c .before .before)) (link at-10 (start-9 (c .before .before))) (c .before .any-edge-bad .ensures) (c .if9 .taken)
+
+table-fits-requires : tie.Need-table-fits-requires
+table-fits-requires c κs = few-count (c .before .before .before .before .before .before .before .before .before .before .before .before .before .before .before .before)
+
+returns-10 : tie.Need-returns-10
+returns-10 c = stop (passed-10 (c .before .before)) (link at-11 (start-10 (c .before .before))) (ap not (c .before .table-fits .ensures)) (c .if10 .taken)
+
+any-entry-bad-requires : tie.Need-any-entry-bad-requires
+any-entry-bad-requires c κs = tt
+
+returns-11 : tie.Need-returns-11
+returns-11 c = stop (passed-11 (c .before .before)) (link at-12 (start-11 (c .before .before))) (c .before .any-entry-bad .ensures) (c .if11 .taken)
+
+solid-unmeasured-requires : tie.Need-solid-unmeasured-requires
+solid-unmeasured-requires c κs =
+    let t = c .before .before in
+    let s = start-11 t in
+    let q = sym (t .before .table-fits .ensures) ∙ not-false (t .before .table-fits .result) (t .if10 .left) in
+    record {
+      few = few-points (t .before .before .before .before .before .before .before .before .before .before .before .before .before .before .before .before .before .before) .few;
+      near = points-near (t .before .before .before .before .before .before .before .before .before .before .before .before .before .before .before .before);
+      full = rw (points-count (s .args .points .now)) (eqb-true (length (s .args .table .now)) (choose (length (s .args .points .now) / 3) 4) q);
+    }
+
+returns-12 : tie.Need-returns-12
+returns-12 c = stop (passed-12 (c .before .before)) (link at-13 (start-12 (c .before .before))) (c .before .solid-unmeasured .ensures) (c .if12 .taken)
+
+returns-13 : tie.Need-returns-13
+returns-13 c = sym (passed-13 c)
+
+pub check-job-spec : {M : Type 1} → statement M
+check-job-spec =
+    tie.close
+    (tie.spec
+    points-fit-requires
+    returns
+    any-far-requires
+    returns-2
+    two-alike-requires
+    returns-3
+    triangles-fit-requires
+    returns-4
+    any-tri-bad-requires
+    returns-5
+    tris-alike-requires
+    returns-6
+    unmatched-requires
+    returns-7
+    kept-fit-requires
+    returns-8
+    any-edge-bad-requires
+    returns-9
+    table-fits-requires
+    returns-10
+    any-entry-bad-requires
+    returns-11
+    solid-unmeasured-requires
+    returns-12
+    returns-13)

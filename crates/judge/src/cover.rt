@@ -1,0 +1,65 @@
+// What a list of fours covers: every point (document 01, law 6) and every kept edge (law 7).
+// Assumes nothing.
+use crate::fours::four_at;
+use checker::list::byte;
+use geometry::tetrahedron::Four;
+ghost use mathlib.Core.Path.{_≡_};
+ghost use Rattle.laws.specs.Laws.{corner-of, is-corner, corners-from, holds-edge, all-kept};
+ghost use Rattle.laws.specs.inner.Listed.{kept-in};
+ghost use Rattle.laws.specs.inner.ListedFours.{fours-listed};
+
+// Whether the point p is a corner of f.
+fn has_corner(f: Four, p: usize) -> bool
+    ensures { λ r. ⌜ r ≡ corner-of p f ⌝ }
+{
+    ((p == f.a) | (p == f.b)) | ((p == f.c) | (p == f.d))
+}
+
+// Whether the point p is a corner of a four of the list.
+fn is_corner(list: &[u8], p: usize) -> bool
+    ensures { λ r. ⌜ r ≡ is-corner p (fours-listed (now (list .entry))) ⌝ }
+{
+    for i in 0..list.len() / 4 {
+        if has_corner(four_at(list, i), p) {
+            return true;
+        }
+    }
+    false
+}
+
+// Law 6, for n points.
+pub(crate) fn keeps_corners(list: &[u8], n: usize) -> bool
+    ensures { λ r. ⌜ r ≡ corners-from n 0 (fours-listed (now (list .entry))) ⌝ }
+{
+    for p in 0..n {
+        if !is_corner(list, p) {
+            return false;
+        }
+    }
+    true
+}
+
+// Whether the edge between the points a and b is an edge of a four of the list.
+fn holds_edge(list: &[u8], a: usize, b: usize) -> bool
+    ensures { λ r. ⌜ r ≡ holds-edge (record { a = a; b = b }) (fours-listed (now (list .entry))) ⌝ }
+{
+    for i in 0..list.len() / 4 {
+        let f = four_at(list, i);
+        if has_corner(f, a) & has_corner(f, b) {
+            return true;
+        }
+    }
+    false
+}
+
+// Law 7.
+pub(crate) fn keeps_edges(kept: &[u8], list: &[u8]) -> bool
+    ensures { λ r. ⌜ r ≡ all-kept (kept-in (now (kept .entry))) (fours-listed (now (list .entry))) ⌝ }
+{
+    for i in 0..kept.len() / 2 {
+        if !holds_edge(list, byte(kept, i * 2), byte(kept, i * 2 + 1)) {
+            return false;
+        }
+    }
+    true
+}

@@ -1,0 +1,42 @@
+// Flags by the number of a directed triangle, which is the same from whichever corner it is read.
+// Assumes nothing.
+ghost use mathlib.Core.Path.{_≡_};
+ghost use mathlib.Core.Bool.{not};
+ghost use Prim.Native.Nat.{_<_};
+ghost use Rattle.laws.specs.Laws.{tri};
+ghost use Rattle.laws.specs.inner.FaceCodes.{face-code};
+ghost use Rattle.laws.specs.inner.FaceFlags.{flagged, flag};
+
+// The number of the triangle a, b, c: its points to the base 16, the least one first.
+pub fn face_code(a: usize, b: usize, c: usize) -> usize
+    requires { ⌜ (a < 16) × (b < 16) × (c < 16) ⌝ }
+    ensures { λ r. ⌜ r ≡ face-code (tri a b c) ⌝ }
+{
+    if (a < b) & (a < c) {
+        return a * 256 + b * 16 + c;
+    }
+    if b < c {
+        return b * 256 + c * 16 + a;
+    }
+    c * 256 + a * 16 + b
+}
+
+// Whether the flag of a triangle is up.
+pub fn is_flagged(flags: &[u8; 4096], a: usize, b: usize, c: usize) -> bool
+    requires { ⌜ (a < 16) × (b < 16) × (c < 16) ⌝ }
+    ensures { λ r. ⌜ r ≡ flagged (now (flags .entry)) (tri a b c) ⌝ }
+{
+    let code = face_code(a, b, c);
+    0 < flags[code]
+}
+
+// Raises the flag of a triangle; whether it was down before.
+pub fn raise(flags: &mut [u8; 4096], a: usize, b: usize, c: usize) -> bool
+    requires { ⌜ (a < 16) × (b < 16) × (c < 16) ⌝ }
+    ensures { λ r. ⌜ (r ≡ not (flagged (now (flags .entry)) (tri a b c))) × (now (flags .exit) ≡ flag (now (flags .entry)) (tri a b c)) ⌝ }
+{
+    let code = face_code(a, b, c);
+    let old = flags[code];
+    flags[code] = 1;
+    !(0 < old)
+}

@@ -1,0 +1,89 @@
+// The judge: what it answers for a job and a list handed in, for every input.
+// Assumes nothing. No input is asked for anything: the list may be empty, unsorted, of any length, and name absent points.
+use crate::cover::keeps_corners;
+use crate::cover::keeps_edges;
+use crate::faces::keeps_faces;
+use crate::fours::keeps_order;
+use crate::interior::keeps_apart;
+use crate::interior::keeps_points_out;
+use crate::quality::keeps_quality;
+use crate::quality::worst_of;
+use checker::check::check_job;
+ghost use mathlib.Core.Path.{_≡_};
+ghost use Rattle.laws.specs.Check.{job, job-refusal};
+ghost use Rattle.judge.specs.Judge.{judged, Judge-says};
+
+// The number that refuses the job, 0 for none; then the lowest law broken, 0 for none; then the worst quality.
+#[repr(C)]
+pub struct Verdict {
+    pub number: u32,
+    pub law: u32,
+    pub worst: u32,
+}
+
+// The lowest law that the list breaks, 0 for none. A list's order is looked at first, so that no list takes long.
+pub fn lowest_broken(
+    points: &[i32],
+    triangles: &[u8],
+    kept: &[u8],
+    table: &[i32],
+    list: &[u8],
+) -> u32
+    requires { ⌜ job-refusal (now points) (now triangles) (now kept) (now table) ≡ 0 ⌝ }
+    ensures { λ r. ⌜ r ≡ judged (job (now (points .entry)) (now (triangles .entry)) (now (kept .entry)) (now (table .entry))) (now (list .entry)) ⌝ }
+{
+    let n = points.len() / 3;
+    if list.len() % 4 != 0 {
+        return 1;
+    }
+    if !keeps_order(list, n) {
+        return 1;
+    }
+    if !keeps_quality(points, table, list) {
+        return 2;
+    }
+    if !keeps_points_out(points, list) {
+        return 3;
+    }
+    if !keeps_faces(points, triangles, list) {
+        return 4;
+    }
+    if !keeps_apart(points, list) {
+        return 5;
+    }
+    if !keeps_corners(list, n) {
+        return 6;
+    }
+    if !keeps_edges(kept, list) {
+        return 7;
+    }
+    0
+}
+
+// THE JUDGE: the number that refuses the job, else the lowest law that the list breaks, else its worst quality.
+pub fn judge(points: &[i32], triangles: &[u8], kept: &[u8], table: &[i32], list: &[u8]) -> Verdict
+    ensures { λ r. ⌜ Judge-says (now (points .entry)) (now (triangles .entry)) (now (kept .entry)) (now (table .entry)) (now (list .entry)) r ⌝ }
+{
+    let number = check_job(points, triangles, kept, table);
+    if number != 0 {
+        return Verdict {
+            number,
+            law: 0,
+            worst: 0,
+        };
+    }
+    let law = lowest_broken(points, triangles, kept, table, list);
+    if law != 0 {
+        return Verdict {
+            number: 0,
+            law,
+            worst: 0,
+        };
+    }
+    let worst = worst_of(points, table, list);
+    Verdict {
+        number: 0,
+        law: 0,
+        worst,
+    }
+}

@@ -1,0 +1,58 @@
+-- Loops over the points of a four (number 13): what is left of a range has the answer of the whole. Assumes nothing.
+use mathlib.Core.Path.{_≡_, refl, sym}
+use mathlib.Core.Bool.{Bool, false, _&&_}
+use mathlib.Core.List.{List, []}
+use Prim.Native.Nat.{ℕ, suc, _+_, _-_, _/_, _≤_, _<_}
+use native.Mathlib.Numerals.{add-one}
+use native.Mathlib.Omega.{arith}
+use lib.ListN.{length, getD}
+use lib.IntN.{ℤ, negsuc}
+use Rattle.geometry.specs.Space.{points-in, solid, four}
+use Rattle.geometry.specs.declared.tetrahedron.Four.{Four}
+use Rattle.laws.specs.Laws.{Job, place, entry}
+use Rattle.laws.specs.Check.{over, unmeasured, solid-unmeasured, job}
+use Rattle.laws.specs.inner.Unmeasured.{four-unmeasured, any-fourth, any-third, any-second}
+use Rattle.laws.proofs.Checker.Points.{points-count}
+use Rattle.laws.proofs.Basics.Scan.{Step}
+
+pub over-step : (n i : ℕ) (f : ℕ → Bool) → i < n → Step (over (n - i) i f) (f i) (over (n - (i + 1)) (i + 1) f)
+unfolding over
+over-step n i f h = let d : n - i ≡ suc (n - (i + 1)) = omega arith in record { is = rw (d, add-one i) refl }
+
+pub over-end : (n i : ℕ) (f : ℕ → Bool) → n ≤ i → over (n - i) i f ≡ false
+unfolding over
+over-end n i f h = let d : n - i ≡ 0 = omega arith in rw d refl
+
+module _ (cs qs : List ℤ) where
+  abbrev pub bare : Job
+  bare = job cs [] [] qs
+
+  job-points : length (bare .points) ≡ length cs / 3
+  unfolding job
+  job-points = points-count cs
+
+  pub fourth-start : (a b c : ℕ) → any-fourth bare a b c ≡ over (length cs / 3 - (c + 1)) (c + 1) (λ d. four-unmeasured bare (four a b c d))
+  unfolding any-fourth
+  fourth-start a b c = rw (job-points, add-one c) refl
+
+  pub third-start : (a b : ℕ) → any-third bare a b ≡ over (length cs / 3 - (b + 1)) (b + 1) (any-fourth bare a b)
+  unfolding any-third
+  third-start a b = rw (job-points, add-one b) refl
+
+  pub second-start : (a : ℕ) → any-second bare a ≡ over (length cs / 3 - (a + 1)) (a + 1) (any-third bare a)
+  unfolding any-second
+  second-start a = rw (job-points, add-one a) refl
+
+  pub first-start : solid-unmeasured bare ≡ over (length cs / 3 - 0) 0 (any-second bare)
+  unfolding solid-unmeasured any-second any-third any-fourth four-unmeasured
+  first-start = let d : length cs / 3 - 0 ≡ length cs / 3 = omega arith in rw (d, sym job-points) refl
+
+  -- number 13 looks at points and table alone
+  pub unmeasured-bare : (ts es : List ℕ) → solid-unmeasured (job cs ts es qs) ≡ solid-unmeasured bare
+  unfolding solid-unmeasured job entry
+  unmeasured-bare ts es = refl
+
+  pub four-by-parts :
+      (f : Four) → four-unmeasured bare f ≡ (solid (points-in cs) f && unmeasured (getD qs (place (length cs / 3) f) (negsuc 0)))
+  unfolding four-unmeasured entry job
+  four-by-parts f = rw (points-count cs) refl
