@@ -10,6 +10,7 @@ use lib.ListN.{length, length-map}
 use lib.IntN.{ℤ}
 use Rattle.geometry.specs.Space.{point, points-in}
 use Rattle.laws.specs.Laws.{Tri, choose}
+use Rattle.laws.specs.Lists.{job-lists}
 use Rattle.laws.specs.Fours.{all-fours}
 use Rattle.laws.specs.Check.{job, job-refusal, tris-in, edges-in, edge-bad, two-alike, any-tri-bad, tris-alike, directed, unmatched}
 use Rattle.laws.proofs.Basics.Tests.{and-of}
@@ -24,7 +25,7 @@ use Rattle.bench_rules.proofs.Opened.{Opened, opened-has}
 use Rattle.bench_rules.proofs.CavityTriangles.{points-present, points-unlike, Bounding, cavity-bounding}
 
 -- a job of which no test holds is not refused
-pub accepted-of : {ps : List ℤ} {ts es : List ℕ} {qs : List ℤ} → Accepted ps ts es qs → job-refusal ps ts es qs ≡ 0
+pub accepted-of : {ps : List ℤ} {ts es : List ℕ} {qs : List ℤ} → Accepted (job-lists ps ts es qs) → job-refusal (job-lists ps ts es qs) ≡ 0
 unfolding job-refusal
 accepted-of a =
     rw (a .shape, a .near, a .places, a .tri-shape, a .tris-good, a .tris-unlike, a .edges-even, a .kept-shape, a .kept-good, a .table-shape, a .entries, a .measured)
@@ -34,7 +35,7 @@ threefold l k e = eq-eqb (l % 3) 0 (omega arith)
 
 pub opened-accepted :
     (b : Bench) (c : Cavity) → Opened b c →
-    Accepted (coordinates (b .points) (c .points)) (renumbered (c .points) (cavity-triangles b c)) [] (cavity-table (coordinates (b .points) (c .points)))
+    Accepted (job-lists (coordinates (b .points) (c .points)) (renumbered (c .points) (cavity-triangles b c)) [] (cavity-table (coordinates (b .points) (c .points))))
 unfolding job cavity-table edges-in edge-bad
 opened-accepted b c o =
     record {

@@ -13,6 +13,7 @@ use Rattle.geometry.specs.Space.{V3, four, points-in, D, solid, equal, zero-z}
 use Rattle.geometry.specs.Measure.{clamped, millionths, magnitude, D-of, is-flat, shape-of, four-entry}
 use Rattle.geometry.specs.declared.tetrahedron.Four.{Four}
 use Rattle.laws.specs.Laws.{choose, place, entry, rising}
+use Rattle.laws.specs.Lists.{job-lists}
 use Rattle.laws.specs.Check.{entry-bad, any-entry-bad, unmeasured, solid-unmeasured, job}
 use Rattle.laws.specs.Fours.{all-fours}
 use Rattle.laws.proofs.Basics.Tests.{and-of, or-false-of}
@@ -75,7 +76,7 @@ well : {n : ℕ} (a b c d : ℕ) → a < b → b < c → c < d → d < n → Wel
 unfolding rising four
 well a b c d ab bc cd dn = record { up = and-of (lt-ltb a b ab) (and-of (lt-ltb b c bc) (lt-ltb c d cd)); below = dn }
 
-pub all-measured : (cs : List ℤ) (ts es : List ℕ) → length (points-in cs) ≤ 16 → solid-unmeasured (job cs ts es (cavity-table cs)) ≡ false
+pub all-measured : (cs : List ℤ) (ts es : List ℕ) → length (points-in cs) ≤ 16 → solid-unmeasured (job (job-lists cs ts es (cavity-table cs))) ≡ false
 unfolding solid-unmeasured job cavity-table entry
 all-measured cs ts es h =
     over-false-of n 0 _ (λ a la ha. over-false-of (n - suc a) (suc a) _ (λ b lb hb. over-false-of (n - suc b) (suc b) _ (λ c lc hc.

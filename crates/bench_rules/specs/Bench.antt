@@ -13,6 +13,7 @@ use Rattle.geometry.specs.Range.{any-far}
 use Rattle.geometry.specs.Measure.{four-quality, four-entry}
 use Rattle.geometry.specs.declared.tetrahedron.Four.{Four}
 use Rattle.laws.specs.Laws.{Job, Tri, all-faces, has, once, reversed, corner-of, worst, bytes, fours-in}
+use Rattle.laws.specs.Lists.{job-lists}
 use Rattle.laws.specs.Choice.{Choice}
 use Rattle.laws.specs.Check.{two-alike, job}
 use Rattle.laws.specs.Fours.{from, all-fours}
@@ -262,7 +263,7 @@ cavity-table cs = map (four-entry (points-in cs)) (all-fours (length (points-in 
 unfoldable pub cavity-job : Bench → Cavity → Job
 cavity-job b c =
     let cs = coordinates (b .points) (c .points) in
-    job cs (renumbered (c .points) (cavity-triangles b c)) [] (cavity-table cs)
+    job (job-lists cs (renumbered (c .points) (cavity-triangles b c)) [] (cavity-table cs))
 
 -- the worst quality of C
 unfoldable pub least-of : (so-far : ℕ) → (qualities : List ℕ) → (tets : List ℕ) → ℕ

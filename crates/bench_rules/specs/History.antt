@@ -10,6 +10,7 @@ use Rattle.geometry.specs.Space.{points-in}
 use Rattle.geometry.specs.declared.tetrahedron.Four.{Four}
 use Rattle.geometry.specs.Measure.{D-of}
 use Rattle.laws.specs.Laws.{Best, worst}
+use Rattle.laws.specs.Lists.{job-lists}
 use Rattle.laws.specs.Check.{job-refusal}
 use Rattle.bench_rules.specs.Bench.{Bench, Cavity, Done, no-mesh, opened, held, fresh, load, open-at, grow, close, Replaced, mesh-fours, top-count, coordinates, renumbered, cavity-triangles, cavity-table, cavity-job, cavity-worst, new-tets}
 
@@ -80,6 +81,5 @@ Stays-good = (o : Op) (b : Bench) (r : Done) → Does o b r → r .number ≡ 0 
 unfoldable pub Cavity-accepted : Type 0
 Cavity-accepted =
     (b : Bench) (c : Cavity) → held b ≡ opened c →
-    job-refusal (coordinates (b .points) (c .points)) (renumbered (c .points) (cavity-triangles b c)) []
-    (cavity-table (coordinates (b .points) (c .points)))
+    job-refusal (job-lists (coordinates (b .points) (c .points)) (renumbered (c .points) (cavity-triangles b c)) [] (cavity-table (coordinates (b .points) (c .points))))
     ≡ 0

@@ -15,6 +15,7 @@ ghost use lib.ListN.{length, getD, drop};
 ghost use lib.IntN.{pos};
 ghost use Rattle.geometry.specs.Space.{of, equal, points-in, point, same-place};
 ghost use Rattle.laws.specs.Laws.{choose};
+ghost use Rattle.laws.specs.Lists.{job-lists};
 ghost use Rattle.laws.specs.Check.{place-taken, two-alike, edge-bad, entry-bad, any-entry-bad, job-refusal};
 ghost use Rattle.laws.specs.inner.Listed.{points-right, kept-right, kept-in, edge-at, edge-wrong};
 
@@ -130,7 +131,7 @@ fn any_entry_bad(table: &[i32]) -> bool
 
 // The lowest number that refuses the job, 0 for none. A list's length is looked at before the list, so no input takes long.
 pub fn check_job(points: &[i32], triangles: &[u8], kept: &[u8], table: &[i32]) -> u32
-    ensures { λ r. ⌜ r ≡ job-refusal (now (points .entry)) (now (triangles .entry)) (now (kept .entry)) (now (table .entry)) ⌝ }
+    ensures { λ r. ⌜ r ≡ job-refusal (job-lists (now (points .entry)) (now (triangles .entry)) (now (kept .entry)) (now (table .entry))) ⌝ }
 {
     if !points_fit(points) {
         return 2;

@@ -8,12 +8,13 @@ ghost use mathlib.Core.List.{[]};
 ghost use Prim.Native.Nat.{_/_, _<_};
 ghost use lib.ListN.{length};
 ghost use Rattle.laws.specs.Check.{job, solid-unmeasured};
+ghost use Rattle.laws.specs.Lists.{with-table};
 ghost use Rattle.laws.specs.inner.Unmeasured.{Ordered, Tabled, four-unmeasured, any-fourth, any-third, any-second};
 
 // Whether the four f is solid and unmeasured.
 fn is_four_unmeasured(points: &[i32], table: &[i32], f: Four) -> bool
     requires { ⌜ Tabled (now points) (now table) × Ordered (length (now points) / 3) f ⌝ }
-    ensures { λ r. ⌜ r ≡ four-unmeasured (job (now (points .entry)) [] [] (now (table .entry))) f ⌝ }
+    ensures { λ r. ⌜ r ≡ four-unmeasured (job (with-table (now (points .entry)) (now (table .entry)))) f ⌝ }
 {
     let n = points.len() / 3;
     let v = entry(table, n, f);
@@ -26,7 +27,7 @@ fn is_four_unmeasured(points: &[i32], table: &[i32], f: Four) -> bool
 // Whether a, b and c begin such a four.
 fn any_fourth(points: &[i32], table: &[i32], a: usize, b: usize, c: usize) -> bool
     requires { ⌜ Tabled (now points) (now table) × (a < b) × (b < c) × (c < length (now points) / 3) ⌝ }
-    ensures { λ r. ⌜ r ≡ any-fourth (job (now (points .entry)) [] [] (now (table .entry))) a b c ⌝ }
+    ensures { λ r. ⌜ r ≡ any-fourth (job (with-table (now (points .entry)) (now (table .entry)))) a b c ⌝ }
 {
     for d in c + 1..points.len() / 3 {
         if is_four_unmeasured(
@@ -48,7 +49,7 @@ fn any_fourth(points: &[i32], table: &[i32], a: usize, b: usize, c: usize) -> bo
 // Whether a and b begin such a four.
 fn any_third(points: &[i32], table: &[i32], a: usize, b: usize) -> bool
     requires { ⌜ Tabled (now points) (now table) × (a < b) × (b < length (now points) / 3) ⌝ }
-    ensures { λ r. ⌜ r ≡ any-third (job (now (points .entry)) [] [] (now (table .entry))) a b ⌝ }
+    ensures { λ r. ⌜ r ≡ any-third (job (with-table (now (points .entry)) (now (table .entry)))) a b ⌝ }
 {
     for c in b + 1..points.len() / 3 {
         if any_fourth(points, table, a, b, c) {
@@ -61,7 +62,7 @@ fn any_third(points: &[i32], table: &[i32], a: usize, b: usize) -> bool
 // Whether a begins such a four.
 fn any_second(points: &[i32], table: &[i32], a: usize) -> bool
     requires { ⌜ Tabled (now points) (now table) × (a < length (now points) / 3) ⌝ }
-    ensures { λ r. ⌜ r ≡ any-second (job (now (points .entry)) [] [] (now (table .entry))) a ⌝ }
+    ensures { λ r. ⌜ r ≡ any-second (job (with-table (now (points .entry)) (now (table .entry)))) a ⌝ }
 {
     for b in a + 1..points.len() / 3 {
         if any_third(points, table, a, b) {
@@ -74,7 +75,7 @@ fn any_second(points: &[i32], table: &[i32], a: usize) -> bool
 // Number 13: a solid four unmeasured.
 pub(crate) fn solid_unmeasured(points: &[i32], table: &[i32]) -> bool
     requires { ⌜ Tabled (now points) (now table) ⌝ }
-    ensures { λ r. ⌜ r ≡ solid-unmeasured (job (now (points .entry)) [] [] (now (table .entry))) ⌝ }
+    ensures { λ r. ⌜ r ≡ solid-unmeasured (job (with-table (now (points .entry)) (now (table .entry)))) ⌝ }
 {
     for a in 0..points.len() / 3 {
         if any_second(points, table, a) {

@@ -4,6 +4,7 @@ pub mod measured;
 
 ghost use mathlib.Core.Path.{_≡_};
 ghost use Rattle.laws.specs.Check.{job-refusal};
+ghost use Rattle.laws.specs.Lists.{job-lists};
 ghost use Rattle.judge.specs.Judge.{Judge-says};
 ghost use Rattle.search.specs.Entry.{Search-says};
 ghost use Rattle.answer.specs.Answer.{Answered};
@@ -34,7 +35,7 @@ pub extern "C" fn cottontuff_check(
     kept: &[u8],
     table: &[i32],
 ) -> u32
-    ensures { λ r. ⌜ r ≡ job-refusal (now (points .entry)) (now (triangles .entry)) (now (kept .entry)) (now (table .entry)) ⌝ }
+    ensures { λ r. ⌜ r ≡ job-refusal (job-lists (now (points .entry)) (now (triangles .entry)) (now (kept .entry)) (now (table .entry))) ⌝ }
 {
     check_job(points, triangles, kept, table)
 }
@@ -48,7 +49,7 @@ pub extern "C" fn cottontuff_judge(
     table: &[i32],
     list: &[u8],
 ) -> Verdict
-    ensures { λ r. ⌜ Judge-says (now (points .entry)) (now (triangles .entry)) (now (kept .entry)) (now (table .entry)) (now (list .entry)) r ⌝ }
+    ensures { λ r. ⌜ Judge-says (job-lists (now (points .entry)) (now (triangles .entry)) (now (kept .entry)) (now (table .entry))) (now (list .entry)) r ⌝ }
 {
     judge(points, triangles, kept, table, list)
 }
@@ -62,7 +63,7 @@ pub extern "C" fn cottontuff_search(
     table: &[i32],
     answer: &mut [u8],
 ) -> Found
-    ensures { λ r. ⌜ Search-says (now (points .entry)) (now (triangles .entry)) (now (kept .entry)) (now (table .entry)) r (now (answer .entry)) (now (answer .exit)) ⌝ }
+    ensures { λ r. ⌜ Search-says (job-lists (now (points .entry)) (now (triangles .entry)) (now (kept .entry)) (now (table .entry))) r (now (answer .entry)) (now (answer .exit)) ⌝ }
 {
     search(points, triangles, kept, table, answer)
 }

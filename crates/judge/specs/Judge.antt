@@ -7,6 +7,7 @@ use lib.Dec.{eqb}
 use lib.ListN.{length}
 use lib.IntN.{ℤ}
 use Rattle.laws.specs.Laws.{Job, broken, worst, fours-in}
+use Rattle.laws.specs.Lists.{Lists}
 use Rattle.laws.specs.Check.{job, job-refusal}
 use Rattle.judge.specs.declared.judge.Verdict.{Verdict}
 
@@ -19,5 +20,5 @@ Judge-as zero j ls r =
     (r .number ≡ 0) × (r .law ≡ judged j ls) × (r .worst ≡ cond (eqb (judged j ls) 0) (worst j (fours-in (length ls / 4) ls)) 0)
 Judge-as (suc n) j ls r = (r .number ≡ suc n) × (r .law ≡ 0) × (r .worst ≡ 0)
 
-unfoldable pub Judge-says : (points : List ℤ) → (triangles kept : List ℕ) → (table : List ℤ) → (list : List ℕ) → Verdict → Type 0
-Judge-says ps ts es qs ls r = Judge-as (job-refusal ps ts es qs) (job ps ts es qs) ls r
+unfoldable pub Judge-says : Lists → (list : List ℕ) → Verdict → Type 0
+Judge-says l ls r = Judge-as (job-refusal l) (job l) ls r

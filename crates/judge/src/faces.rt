@@ -14,6 +14,7 @@ ghost use Prim.Native.Nat.{_<_};
 ghost use lib.ListN.{length};
 ghost use Rattle.geometry.specs.Space.{points-in};
 ghost use Rattle.laws.specs.Laws.{tri, faces, all-faces, law-4};
+ghost use Rattle.laws.specs.Lists.{with-triangles};
 ghost use Rattle.laws.specs.Check.{job, any-tri-bad};
 ghost use Rattle.laws.specs.inner.Listed.{triangles-in, All-within};
 ghost use Rattle.laws.specs.inner.ListedFours.{fours-listed, Well-listed, Below};
@@ -114,7 +115,7 @@ fn are_all_closed(points: &[i32], list: &[u8], own: &[u8; 4096], bound: &[u8; 40
 // Law 4.
 pub(crate) fn keeps_faces(points: &[i32], triangles: &[u8], list: &[u8]) -> bool
     requires { ⌜ Well-listed (now points) (now list) × (any-tri-bad (length (points-in (now points))) (triangles-in (now triangles)) ≡ false) ⌝ }
-    ensures { λ r. ⌜ r ≡ law-4 (job (now (points .entry)) (now (triangles .entry)) [] []) (fours-listed (now (list .entry))) ⌝ }
+    ensures { λ r. ⌜ r ≡ law-4 (job (with-triangles (now (points .entry)) (now (triangles .entry)))) (fours-listed (now (list .entry))) ⌝ }
 {
     let mut own: [u8; 4096] = [0; 4096];
     if !raise_all_faces(points, list, &mut own) {

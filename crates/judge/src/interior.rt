@@ -12,6 +12,7 @@ ghost use lib.ListN.{length};
 ghost use Rattle.geometry.specs.Range.{Present};
 ghost use Rattle.geometry.specs.Space.{points-in};
 ghost use Rattle.laws.specs.Laws.{none-inside, law-3, apart-all, law-5};
+ghost use Rattle.laws.specs.Lists.{points-only};
 ghost use Rattle.laws.specs.Check.{job};
 ghost use Rattle.laws.specs.inner.ListedFours.{fours-listed, four-at, fours-from, Well-listed};
 
@@ -31,7 +32,7 @@ fn is_empty(points: &[i32], f: Four) -> bool
 // Law 3.
 pub(crate) fn keeps_points_out(points: &[i32], list: &[u8]) -> bool
     requires { ⌜ Well-listed (now points) (now list) ⌝ }
-    ensures { λ r. ⌜ r ≡ law-3 (job (now (points .entry)) [] [] []) (fours-listed (now (list .entry))) ⌝ }
+    ensures { λ r. ⌜ r ≡ law-3 (job (points-only (now (points .entry)))) (fours-listed (now (list .entry))) ⌝ }
 {
     for i in 0..list.len() / 4 {
         if !is_empty(points, oriented(points, four_at(list, i))) {
@@ -61,7 +62,7 @@ fn is_apart_from_later(points: &[i32], list: &[u8], i: usize) -> bool
 // Law 5.
 pub(crate) fn keeps_apart(points: &[i32], list: &[u8]) -> bool
     requires { ⌜ Well-listed (now points) (now list) ⌝ }
-    ensures { λ r. ⌜ r ≡ law-5 (job (now (points .entry)) [] [] []) (fours-listed (now (list .entry))) ⌝ }
+    ensures { λ r. ⌜ r ≡ law-5 (job (points-only (now (points .entry)))) (fours-listed (now (list .entry))) ⌝ }
 {
     for i in 0..list.len() / 4 {
         if !is_apart_from_later(points, list, i) {

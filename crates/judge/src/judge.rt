@@ -11,6 +11,7 @@ use crate::quality::worst_of;
 use checker::check::check_job;
 ghost use mathlib.Core.Path.{_≡_};
 ghost use Rattle.laws.specs.Check.{job, job-refusal};
+ghost use Rattle.laws.specs.Lists.{job-lists};
 ghost use Rattle.judge.specs.Judge.{judged, Judge-says};
 
 // The number that refuses the job, 0 for none; then the lowest law broken, 0 for none; then the worst quality.
@@ -29,8 +30,8 @@ pub fn lowest_broken(
     table: &[i32],
     list: &[u8],
 ) -> u32
-    requires { ⌜ job-refusal (now points) (now triangles) (now kept) (now table) ≡ 0 ⌝ }
-    ensures { λ r. ⌜ r ≡ judged (job (now (points .entry)) (now (triangles .entry)) (now (kept .entry)) (now (table .entry))) (now (list .entry)) ⌝ }
+    requires { ⌜ job-refusal (job-lists (now points) (now triangles) (now kept) (now table)) ≡ 0 ⌝ }
+    ensures { λ r. ⌜ r ≡ judged (job (job-lists (now (points .entry)) (now (triangles .entry)) (now (kept .entry)) (now (table .entry)))) (now (list .entry)) ⌝ }
 {
     let n = points.len() / 3;
     if list.len() % 4 != 0 {
@@ -62,7 +63,7 @@ pub fn lowest_broken(
 
 // THE JUDGE: the number that refuses the job, else the lowest law that the list breaks, else its worst quality.
 pub fn judge(points: &[i32], triangles: &[u8], kept: &[u8], table: &[i32], list: &[u8]) -> Verdict
-    ensures { λ r. ⌜ Judge-says (now (points .entry)) (now (triangles .entry)) (now (kept .entry)) (now (table .entry)) (now (list .entry)) r ⌝ }
+    ensures { λ r. ⌜ Judge-says (job-lists (now (points .entry)) (now (triangles .entry)) (now (kept .entry)) (now (table .entry))) (now (list .entry)) r ⌝ }
 {
     let number = check_job(points, triangles, kept, table);
     if number != 0 {

@@ -12,6 +12,7 @@ ghost use lib.Dec.{ltb};
 ghost use lib.ListN.{length};
 ghost use Rattle.geometry.specs.Space.{points-in, solid};
 ghost use Rattle.laws.specs.Laws.{entry, quality, law-1, law-2, worst};
+ghost use Rattle.laws.specs.Lists.{with-table};
 ghost use Rattle.laws.specs.Check.{job};
 ghost use Rattle.laws.specs.inner.Unmeasured.{Ordered, Tabled};
 ghost use Rattle.laws.specs.inner.ListedFours.{fours-listed};
@@ -19,7 +20,7 @@ ghost use Rattle.laws.specs.inner.ListedFours.{fours-listed};
 // The quality of f by the table, 0 for none.
 pub fn quality_of(points: &[i32], table: &[i32], f: Four) -> u32
     requires { ⌜ Tabled (now points) (now table) × Ordered (length (points-in (now points))) f ⌝ }
-    ensures { λ r. ⌜ r ≡ quality (entry (job (now (points .entry)) [] [] (now (table .entry))) f) ⌝ }
+    ensures { λ r. ⌜ r ≡ quality (entry (job (with-table (now (points .entry)) (now (table .entry)))) f) ⌝ }
 {
     let v = entry(table, points.len() / 3, f);
     if v < 0 {
@@ -31,7 +32,7 @@ pub fn quality_of(points: &[i32], table: &[i32], f: Four) -> u32
 // Whether f is solid and has a quality above 0.
 fn has_quality(points: &[i32], table: &[i32], f: Four) -> bool
     requires { ⌜ Tabled (now points) (now table) × Ordered (length (points-in (now points))) f ⌝ }
-    ensures { λ r. ⌜ r ≡ (solid (points-in (now (points .entry))) f && ltb 0 (quality (entry (job (now (points .entry)) [] [] (now (table .entry))) f))) ⌝ }
+    ensures { λ r. ⌜ r ≡ (solid (points-in (now (points .entry))) f && ltb 0 (quality (entry (job (with-table (now (points .entry)) (now (table .entry)))) f))) ⌝ }
 {
     if !is_solid(points, f) {
         return false;
@@ -42,7 +43,7 @@ fn has_quality(points: &[i32], table: &[i32], f: Four) -> bool
 // Law 2.
 pub(crate) fn keeps_quality(points: &[i32], table: &[i32], list: &[u8]) -> bool
     requires { ⌜ Tabled (now points) (now table) × (law-1 (length (points-in (now points))) (fours-listed (now list)) ≡ true) ⌝ }
-    ensures { λ r. ⌜ r ≡ law-2 (job (now (points .entry)) [] [] (now (table .entry))) (fours-listed (now (list .entry))) ⌝ }
+    ensures { λ r. ⌜ r ≡ law-2 (job (with-table (now (points .entry)) (now (table .entry)))) (fours-listed (now (list .entry))) ⌝ }
 {
     for i in 0..list.len() / 4 {
         if !has_quality(points, table, four_at(list, i)) {
@@ -62,7 +63,7 @@ fn lesser(a: u32, b: u32) -> u32
 // The worst quality of a list, 1,000,000 for an empty one.
 pub fn worst_of(points: &[i32], table: &[i32], list: &[u8]) -> u32
     requires { ⌜ Tabled (now points) (now table) × (law-1 (length (points-in (now points))) (fours-listed (now list)) ≡ true) ⌝ }
-    ensures { λ r. ⌜ r ≡ worst (job (now (points .entry)) [] [] (now (table .entry))) (fours-listed (now (list .entry))) ⌝ }
+    ensures { λ r. ⌜ r ≡ worst (job (with-table (now (points .entry)) (now (table .entry)))) (fours-listed (now (list .entry))) ⌝ }
 {
     let mut least: u32 = 1000000;
     for i in 0..list.len() / 4 {

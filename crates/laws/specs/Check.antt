@@ -11,6 +11,7 @@ use Rattle.geometry.specs.Range.{any-far}
 use Rattle.geometry.specs.Space.{V3, four, point, points-in, solid, same-place}
 use Rattle.geometry.specs.declared.tetrahedron.Four.{Four}
 use Rattle.laws.specs.Laws.{Job, Tri, tri, Edge, choose, entry, same-tri, reversed}
+use Rattle.laws.specs.Lists.{Lists}
 
 unfoldable pub place-taken : V3 → List V3 → Bool
 place-taken p [] = false
@@ -86,22 +87,47 @@ solid-unmeasured j =
     over n 0 (λ a. over (n - suc a) (suc a) (λ b. over (n - suc b) (suc b) (λ c. over (n - suc c) (suc c) (λ d.
     solid (j .points) (four a b c d) && unmeasured (entry j (four a b c d))))))
 
-unfoldable pub job : (points : List ℤ) → (triangles kept : List ℕ) → (table : List ℤ) → Job
-job ps ts es qs =
-    record { points = points-in ps; triangles = tris-in (length ts / 3) ts; kept = edges-in (length es / 2) es; table = qs }
+unfoldable pub job : Lists → Job
+job l =
+    record {
+      points = points-in (l .points);
+      triangles = tris-in (length (l .triangles) / 3) (l .triangles);
+      kept = edges-in (length (l .kept) / 2) (l .kept);
+      table = l .table;
+    }
 
-unfoldable pub job-refusal : (points : List ℤ) → (triangles kept : List ℕ) → (table : List ℤ) → ℕ
-job-refusal ps ts es qs =
-    let j = job ps ts es qs in
+-- ---- THE ORDER OF THE NUMBERS: a number's place in this list, not its size, says which is given first
+pub record Refusal : Type 0 where
+  pub number : ℕ
+  pub applies : Bool
+
+unfoldable pub refusal : (number : ℕ) → (applies : Bool) → Refusal
+refusal n b = record { number = n; applies = b }
+
+-- the first that applies, 0 for none
+unfoldable pub first-refusal : List Refusal → ℕ
+first-refusal [] = 0
+first-refusal (r ∷ rs) = cond (r .applies) (r .number) (first-refusal rs)
+
+-- numbers 2 to 13, each with its line of document 01
+unfoldable pub refusals : Lists → List Refusal
+refusals l =
+    let j = job l in
     let n = length (j .points) in
     let edges = directed (j .triangles) in
-    cond (not (eqb (length ps % 3) 0 && (leb 4 n && leb n 16))) 2
-    (cond (any-far ps) 3
-    (cond (two-alike (j .points)) 4
-    (cond (not (eqb (length ts % 3) 0 && (leb 4 (length ts / 3) && leb (length ts / 3) 560))) 5
-    (cond (any-tri-bad n (j .triangles)) 6
-    (cond (tris-alike (j .triangles)) 7
-    (cond (unmatched edges edges) 8
-    (cond (not (eqb (length es % 2) 0 && leb (length es / 2) 120)) 9
-    (cond (edge-bad n (j .kept)) 10
-    (cond (not (eqb (length qs) (choose n 4))) 11 (cond (any-entry-bad qs) 12 (cond (solid-unmeasured j) 13 0)))))))))))
+    refusal 2 (not (eqb (length (l .points) % 3) 0 && (leb 4 n && leb n 16))) ∷
+    refusal 3 (any-far (l .points)) ∷
+    refusal 4 (two-alike (j .points)) ∷
+    refusal 5 (not (eqb (length (l .triangles) % 3) 0 && (leb 4 (length (l .triangles) / 3) && leb (length (l .triangles) / 3) 560))) ∷
+    refusal 6 (any-tri-bad n (j .triangles)) ∷
+    refusal 7 (tris-alike (j .triangles)) ∷
+    refusal 8 (unmatched edges edges) ∷
+    refusal 9 (not (eqb (length (l .kept) % 2) 0 && leb (length (l .kept) / 2) 120)) ∷
+    refusal 10 (edge-bad n (j .kept)) ∷
+    refusal 11 (not (eqb (length (l .table)) (choose n 4))) ∷
+    refusal 12 (any-entry-bad (l .table)) ∷
+    refusal 13 (solid-unmeasured j) ∷
+    []
+
+unfoldable pub job-refusal : Lists → ℕ
+job-refusal l = first-refusal (refusals l)

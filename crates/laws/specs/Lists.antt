@@ -1,9 +1,7 @@
--- A job as it is handed over: its four lists. Assumes nothing: these are definitions.
-use mathlib.Core.List.{List}
+-- A job as it is handed over: its lists. What speaks of a job's lists takes this record, so that one list more touches no statement. Assumes nothing: these are definitions.
+use mathlib.Core.List.{List, []}
 use Prim.Native.Nat.{ℕ}
 use lib.IntN.{ℤ}
-use Rattle.laws.specs.Laws.{Job}
-use Rattle.laws.specs.Check.{job, job-refusal}
 
 pub record Lists : Type 0 where
   pub points : List ℤ
@@ -11,8 +9,15 @@ pub record Lists : Type 0 where
   pub kept : List ℕ
   pub table : List ℤ
 
-unfoldable pub job-of : Lists → Job
-job-of l = job (l .points) (l .triangles) (l .kept) (l .table)
+abbrev pub job-lists : (points : List ℤ) → (triangles kept : List ℕ) → (table : List ℤ) → Lists
+job-lists ps ts es qs = record { points = ps; triangles = ts; kept = es; table = qs }
 
-unfoldable pub refusal-of : Lists → ℕ
-refusal-of l = job-refusal (l .points) (l .triangles) (l .kept) (l .table)
+-- what a test that looks at no other list is given
+abbrev pub points-only : (points : List ℤ) → Lists
+points-only ps = record { points = ps; triangles = []; kept = []; table = [] }
+
+abbrev pub with-triangles : (points : List ℤ) → (triangles : List ℕ) → Lists
+with-triangles ps ts = record { points = ps; triangles = ts; kept = []; table = [] }
+
+abbrev pub with-table : (points table : List ℤ) → Lists
+with-table ps qs = record { points = ps; triangles = []; kept = []; table = qs }

@@ -10,13 +10,14 @@ use lib.IntN.{ℤ}
 use Rattle.geometry.specs.Space.{Z, z, plus, equal, four, D, turned, V3}
 use Rattle.geometry.specs.declared.tetrahedron.Four.{Four}
 use Rattle.laws.specs.Laws.{Job, lawful, worst, Best, list-before, place, choose, rising, bytes, fours-in}
+use Rattle.laws.specs.Lists.{Lists}
 use Rattle.laws.specs.Check.{job, job-refusal}
 
 -- THE THIRD DEMAND: a job that is not refused and has a lawful filling has just one best one
 unfoldable pub Best-there : Type 0
 Best-there =
-    (ps : List ℤ) (ts es : List ℕ) (qs : List ℤ) (gs : List Four) → job-refusal ps ts es qs ≡ 0 → lawful (job ps ts es qs) gs ≡ true →
-    (fs : List Four) × Best (job ps ts es qs) fs
+    (l : Lists) (gs : List Four) → job-refusal l ≡ 0 → lawful (job l) gs ≡ true →
+    (fs : List Four) × Best (job l) fs
 
 unfoldable pub Best-alone : Type 0
 Best-alone = (j : Job) (fs gs : List Four) → Best j fs → Best j gs → fs ≡ gs
@@ -28,8 +29,8 @@ sum-D ps (f ∷ fs) = plus (D ps (turned ps f)) (sum-D ps fs)
 
 unfoldable pub Same-space : Type 0
 Same-space =
-    (ps : List ℤ) (ts es : List ℕ) (qs : List ℤ) (fs gs : List Four) → job-refusal ps ts es qs ≡ 0 → lawful (job ps ts es qs) fs ≡ true →
-    lawful (job ps ts es qs) gs ≡ true → equal (sum-D (job ps ts es qs .points) fs) (sum-D (job ps ts es qs .points) gs) ≡ true
+    (l : Lists) (fs gs : List Four) → job-refusal l ≡ 0 → lawful (job l) fs ≡ true →
+    lawful (job l) gs ≡ true → equal (sum-D (job l .points) fs) (sum-D (job l .points) gs) ≡ true
 
 -- the table: each rising four has a place of its own below the number of fours
 unfoldable pub Places-right : Type 0
@@ -40,5 +41,5 @@ Places-right =
 -- a filling has at most 1,820 tetrahedra, so that its bytes fit the answer
 unfoldable pub Fits : Type 0
 Fits =
-    (ps : List ℤ) (ts es : List ℕ) (qs : List ℤ) (fs : List Four) → job-refusal ps ts es qs ≡ 0 → lawful (job ps ts es qs) fs ≡ true →
+    (l : Lists) (fs : List Four) → job-refusal l ≡ 0 → lawful (job l) fs ≡ true →
     (length (bytes fs) ≤ 7280) × (fours-in (length fs) (bytes fs) ≡ fs)

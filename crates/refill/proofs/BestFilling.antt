@@ -8,6 +8,7 @@ use lib.IntN.{ℤ, pos}
 use Rattle.geometry.specs.Space.{four}
 use Rattle.geometry.specs.declared.tetrahedron.Four.{Four}
 use Rattle.laws.specs.Laws.{Job, bytes, fours-in, worst}
+use Rattle.laws.specs.Lists.{job-lists}
 use Rattle.laws.specs.Choice.{Choice}
 use Rattle.laws.proofs.Choice.Deciding.{choice}
 use Rattle.search.specs.Entry.{in-front, says, Searched, Search-says}
@@ -48,7 +49,7 @@ module _ {cs : List ℤ} {ts qs cm pm : List ℕ} (o : Open-mesh cs ts qs cm pm)
       (r : Answer) (a : Answered (coordinates cs (marked 0 pm)) (renumbered (marked 0 pm) (cavity-triangles (bench-of cs ts [] none 0) (marked-cavity cm pm))) r) →
       Searched (cavity-job (bench-of cs ts [] none 0) (marked-cavity cm pm)) (found-by r) (a .buffer) (r .corner)
   unfolding cavity-job bench-of marked-cavity
-  job-searched r a = searched-of _ _ _ _ (found-by r) (a .buffer) (r .corner) (job-accepted o) (a .long) (a .says)
+  job-searched r a = searched-of (job-lists _ _ _ _) (found-by r) (a .buffer) (r .corner) (job-accepted o) (a .long) (a .says)
 
   pub best-filled :
       {point triangle : List ℕ} {coordinate : List ℤ} {n e t : ℕ} (r : Answer) → In-array 0 16 (marked 0 pm) point n → In-array (pos 0) 48 (coordinates cs (marked 0 pm)) coordinate e →
@@ -65,6 +66,6 @@ module _ {cs : List ℤ} {ts qs cm pm : List ℕ} (o : Open-mesh cs ts qs cm pm)
 -- ---- the search with a table that is measured
 pub table-searched :
     (ps : List ℤ) (ts : List ℕ) {entry : List ℤ} {q : ℕ} (r : Found) (a b : List ℕ) → In-array (pos 0) 1820 (cavity-table ps) entry q → 7280 ≤ length a →
-    Search-says ps ts [] (take q entry) r a b → Answered ps ts (record { number = r .number; count = r .count; worst = r .worst; corner = b })
+    Search-says (job-lists ps ts [] (take q entry)) r a b → Answered ps ts (record { number = r .number; count = r .count; worst = r .worst; corner = b })
 table-searched ps ts r a b t l s =
-    record { buffer = a; long = l; says = subst (λ (u : List ℤ). Search-says ps ts [] u r a b) (array-read (pos 0) 1820 (cavity-table ps) t) s }
+    record { buffer = a; long = l; says = subst (λ (u : List ℤ). Search-says (job-lists ps ts [] u) r a b) (array-read (pos 0) 1820 (cavity-table ps) t) s }

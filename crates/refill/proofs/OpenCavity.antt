@@ -13,6 +13,7 @@ use Rattle.geometry.specs.Space.{points-in}
 use Rattle.geometry.specs.Range.{any-far}
 use Rattle.geometry.specs.declared.tetrahedron.Four.{Four}
 use Rattle.laws.specs.Laws.{bytes}
+use Rattle.laws.specs.Lists.{job-lists}
 use Rattle.laws.specs.Check.{job-refusal}
 use Rattle.laws.proofs.Order.Bytes.{length-bytes}
 use Rattle.laws.proofs.Basics.Lists.{Each, each-of-members}
@@ -140,7 +141,7 @@ module _ {cs : List ℤ} {ts qs cm pm : List ℕ} (o : Open-mesh cs ts qs cm pm)
   boundary-most = cavity-bounding open-bench open-cavity opened .most
 
   pub job-accepted :
-      job-refusal (coordinates cs (marked 0 pm)) (renumbered (marked 0 pm) (cavity-triangles (bench-of cs ts [] none 0) (marked-cavity cm pm))) [] (cavity-table (coordinates cs (marked 0 pm)))
+      job-refusal (job-lists (coordinates cs (marked 0 pm)) (renumbered (marked 0 pm) (cavity-triangles (bench-of cs ts [] none 0) (marked-cavity cm pm))) [] (cavity-table (coordinates cs (marked 0 pm))))
       ≡ 0
   unfolding bench-of marked-cavity cavity-triangles Cavity-accepted
   job-accepted = cavity-accepted open-bench open-cavity (o .held-open)

@@ -7,6 +7,7 @@ use lib.ListN.{length, take}
 use lib.IntN.{ℤ}
 use Rattle.geometry.specs.declared.tetrahedron.Four.{Four}
 use Rattle.laws.specs.Laws.{Job, worst, fours-in}
+use Rattle.laws.specs.Lists.{job-lists}
 use Rattle.laws.specs.Choice.{Choice}
 use Rattle.bench_rules.specs.Bench.{Bench, mesh-fours, cavity-table, cavity-job, put-in, replace-by}
 use Rattle.bench_rules.specs.Marks.{marked, entries}
@@ -65,7 +66,7 @@ pub record Has-open (cs : List ℤ) (ts cm pm : List ℕ) : Type 0 where
 pub record Answered (ps : List ℤ) (ts : List ℕ) (r : Answer) : Type 0 where
   pub buffer : List ℕ
   pub long : 7280 ≤ length buffer
-  pub says : Search-says ps ts [] (cavity-table ps) (record { number = r .number; count = r .count; worst = r .worst }) buffer (r .corner)
+  pub says : Search-says (job-lists ps ts [] (cavity-table ps)) (record { number = r .number; count = r .count; worst = r .worst }) buffer (r .corner)
 
 -- the search's answer where `choice` is the best filling, or none where no list is lawful
 unfoldable pub filled-as : Job → (choice : Option (List Four)) → Filling → Type 0

@@ -10,6 +10,7 @@ use lib.Dec.{ltb}
 use lib.ListN.{length, getD}
 use lib.IntN.{ℤ}
 use Rattle.laws.specs.Laws.{fours-in}
+use Rattle.laws.specs.Lists.{job-lists}
 use Rattle.laws.specs.Check.{job}
 use Rattle.laws.proofs.Basics.Tests.{and-true, or-true, true-or-false}
 use Rattle.laws.specs.inner.FaceCodes.{face-code, flip-code}
@@ -50,10 +51,10 @@ module _ {own bound lv : List ℕ} {A B : ℕ → Type 0} {k₁ f₁ k f : ℕ} 
 -- ---- the boundary's faces first, then those behind the set candidates
 module _
     {ps : List ℤ} {ts es : List ℕ} {qs : List ℤ} {fours codes bound : List ℕ} {m : ℕ} (x : Context ps ts es qs fours codes bound m) {ms ns own lv rim : List ℕ} {k₁ f₁ k f : ℕ}
-    (d : Reduced (job ps ts es qs) (fours-in m fours) ms ns) (o : Owner-flags m codes ms 2 own) (a : Goes-on own bound lv (On-rim rim (length ts / 3)) 1 0 k₁ f₁)
+    (d : Reduced (job (job-lists ps ts es qs)) (fours-in m fours) ms ns) (o : Owner-flags m codes ms 2 own) (a : Goes-on own bound lv (On-rim rim (length ts / 3)) 1 0 k₁ f₁)
     (b : Goes-on own bound lv (Behind-set codes ns m) k₁ f₁ k f)
   where
-    pub settles-chosen : Owner-flags m codes ns 1 lv → (k ≡ 1 → ⊥) → Settles (job ps ts es qs) (fours-in m fours) ms k f ns
+    pub settles-chosen : Owner-flags m codes ns 1 lv → (k ≡ 1 → ⊥) → Settles (job (job-lists ps ts es qs)) (fours-in m fours) ms k f ns
     settles-chosen v n =
         record {
           reduced = d;
@@ -66,7 +67,7 @@ module _
     pub nothing-open : Rim ts rim → k ≡ 1 → (c : ℕ) → c < 4096 → open-code own bound c ≡ false
     nothing-open y e c h = go (true-or-false (open-code own bound c))
       where
-        on-rim : Bound (job ps ts es qs .triangles) c → On-rim rim (length ts / 3) c
+        on-rim : Bound (job (job-lists ps ts es qs) .triangles) c → On-rim rim (length ts / 3) c
         on-rim u = let r = tri-number (length ts / 3) ts (u .face) (unfold job in (u .stands)) in record { number = r .0; below = r .1 .0; is = y .each (r .0) (r .1 .0) ∙ ap face-code (sym (r .1 .1)) ∙ u .code }
 
         behind : Owner m codes ms 2 (flip-code c) → Behind-set codes ns m c

@@ -7,6 +7,7 @@ use lib.ListN.{length, getD, set, length-set}
 use lib.IntN.{ℤ}
 use Rattle.geometry.specs.declared.tetrahedron.Four.{Four}
 use Rattle.laws.specs.Laws.{Job, fours-in}
+use Rattle.laws.specs.Lists.{job-lists}
 use Rattle.laws.specs.Check.{job}
 use Rattle.search.specs.Marks.{nth, marked-from, marked, Pool}
 use Rattle.search.specs.Codes.{Face-table}
@@ -88,12 +89,12 @@ compacted-at p q r s w = rw (p, q, r, s) w
 -- all passed
 pub compacted-filed :
     {ps : List ℤ} {ts es : List ℕ} {qs : List ℤ} {fours codes quals ms fours2 codes2 quals2 : List ℕ} {m c : ℕ} → Filed ps ts es qs fours codes quals m →
-    Compacted (job ps ts es qs) fours ms m fours2 codes2 quals2 c → Filed ps ts es qs fours2 codes2 quals2 c
+    Compacted (job (job-lists ps ts es qs)) fours ms m fours2 codes2 quals2 c → Filed ps ts es qs fours2 codes2 quals2 c
 compacted-filed {ps} {ts} {es} {qs} {fours} {ms = ms} {m = m} p w =
     record {
       few = omega (arith, p .few, compacted-below w);
       long = omega (arith, w .fours-long, p .few, compacted-below w);
-      pool = subst (Pool (job ps ts es qs)) (sym (w .alive)) (pool-alive ms (p .pool));
+      pool = subst (Pool (job (job-lists ps ts es qs))) (sym (w .alive)) (pool-alive ms (p .pool));
       faces = w .faces;
       qualities = w .qualities;
     }

@@ -11,6 +11,7 @@ use Rattle.geometry.specs.Space.{V3, points-in, turned, apart}
 use Rattle.geometry.specs.declared.tetrahedron.Four.{Four}
 use Rattle.geometry.specs.Range.{Present}
 use Rattle.laws.specs.Laws.{Tri, faces, four-before, has, fours-in}
+use Rattle.laws.specs.Lists.{job-lists}
 use Rattle.laws.specs.Check.{job}
 use Rattle.laws.proofs.Basics.Tests.{true-or-false}
 use Rattle.laws.proofs.Basics.Lists.{Each, each-at-member}
@@ -30,7 +31,7 @@ use Rattle.search.proofs.OpenCodes.{face-proper}
 use Rattle.search.proofs.Context.{context-sorted, context-count}
 use Rattle.search.proofs.RimFlags.{accepted-points-few}
 
-points-of-job : (ps : List ℤ) (ts es : List ℕ) (qs : List ℤ) → job ps ts es qs .points ≡ points-in ps
+points-of-job : (ps : List ℤ) (ts es : List ℕ) (qs : List ℤ) → job (job-lists ps ts es qs) .points ≡ points-in ps
 unfolding job
 points-of-job ps ts es qs = refl
 
@@ -55,7 +56,7 @@ module _ {ps : List ℤ} {ts es : List ℕ} {qs : List ℤ} {fours codes bound :
   cs = fours-in m fours
 
   abbrev P : List V3
-  P = job ps ts es qs .points
+  P = job (job-lists ps ts es qs) .points
 
   good : Each (Well-formed (length P)) cs
   good = law-1-well-formed (length P) cs (x .pool .order)
@@ -73,7 +74,7 @@ module _ {ps : List ℤ} {ts es : List ℕ} {qs : List ℤ} {fours codes bound :
       go : Increasing (length (points-in ps)) (nth cs k) → Present ps (nth cs k)
       go u =
           record {
-            near = accepted ps ts es qs (x .accepted) .near;
+            near = accepted (job-lists ps ts es qs) (x .accepted) .near;
             a = omega (arith, u .ab, u .bc, u .cd, u .dn);
             b = omega (arith, u .bc, u .cd, u .dn);
             c = omega (arith, u .cd, u .dn);
@@ -88,7 +89,7 @@ module _ {ps : List ℤ} {ts es : List ℕ} {qs : List ℤ} {fours codes bound :
 
   module _ {a b : ℕ} (k : a < m) (l : b < m) where
     -- ---- a common face number is a common face
-    pub sharing-cannot : (c : ℕ) → Owns codes a c → Owns codes b c → false ≡ compatible (job ps ts es qs .points) (nth (fours-in m fours) a) (nth (fours-in m fours) b)
+    pub sharing-cannot : (c : ℕ) → Owns codes a c → Owns codes b c → false ≡ compatible (job (job-lists ps ts es qs) .points) (nth (fours-in m fours) a) (nth (fours-in m fours) b)
     sharing-cannot c w v = go (true-or-false (compatible P (nth cs a) (nth cs b)))
       where
         y : Tri
@@ -118,14 +119,14 @@ module _ {ps : List ℤ} {ts es : List ℕ} {qs : List ℤ} {fours codes bound :
           (λ t h g. none (face-code t) (has-owns few good (x .faces) t a (within k) (has-of h)) (has-owns few good (x .faces) t b (within l) (has-of g)))
 
       pub apart-in-order :
-          a < b → apart (job ps ts es qs .points) (nth (fours-in m fours) a) (nth (fours-in m fours) b) ≡ compatible (job ps ts es qs .points) (nth (fours-in m fours) a) (nth (fours-in m fours) b)
+          a < b → apart (job (job-lists ps ts es qs) .points) (nth (fours-in m fours) a) (nth (fours-in m fours) b) ≡ compatible (job (job-lists ps ts es qs) .points) (nth (fours-in m fours) a) (nth (fours-in m fours) b)
       apart-in-order h = lower-first P (nth cs a) (nth cs b) unshared (nth-before (context-sorted x) a b h (within l))
 
       pub apart-turned-round :
-          b < a → apart (job ps ts es qs .points) (nth (fours-in m fours) b) (nth (fours-in m fours) a) ≡ compatible (job ps ts es qs .points) (nth (fours-in m fours) a) (nth (fours-in m fours) b)
+          b < a → apart (job (job-lists ps ts es qs) .points) (nth (fours-in m fours) b) (nth (fours-in m fours) a) ≡ compatible (job (job-lists ps ts es qs) .points) (nth (fours-in m fours) a) (nth (fours-in m fours) b)
       apart-turned-round h = upper-first P (nth cs a) (nth cs b) unshared (not-before (nth cs a) (nth cs b) (nth-before (context-sorted x) b a h (within k)))
 
 -- what a test of two fours says of a job's candidates
-pub apart-of : (ps : List ℤ) (ts es : List ℕ) (qs : List ℤ) {f g s t : Four} → f ≡ s → g ≡ t → apart (points-in ps) f g ≡ apart (job ps ts es qs .points) s t
+pub apart-of : (ps : List ℤ) (ts es : List ℕ) (qs : List ℤ) {f g s t : Four} → f ≡ s → g ≡ t → apart (points-in ps) f g ≡ apart (job (job-lists ps ts es qs) .points) s t
 unfolding job
 apart-of ps ts es qs {f} {g} {s} {t} d e = ap (λ (u : Four). apart (points-in ps) u g) d ∙ ap (λ (u : Four). apart (points-in ps) s u) e

@@ -12,6 +12,7 @@ use lib.IntN.{ℤ}
 use Rattle.geometry.specs.Space.{turned}
 use Rattle.geometry.specs.declared.tetrahedron.Four.{Four}
 use Rattle.laws.specs.Laws.{faces, all-faces, has, law-6, law-7, fours-in}
+use Rattle.laws.specs.Lists.{job-lists}
 use Rattle.laws.specs.Check.{job}
 use Rattle.laws.proofs.Basics.Tests.{and-true, true-or-false}
 use Rattle.laws.proofs.Basics.Lists.{Each}
@@ -42,64 +43,64 @@ module _ {ps : List ℤ} {ts es : List ℕ} {qs : List ℤ} {fours codes bound :
   pub context-sorted : Sorted (fours-in m fours)
   context-sorted = pool-sorted (x .pool)
 
-  context-small : length (job ps ts es qs .points) ≤ 16
+  context-small : length (job (job-lists ps ts es qs) .points) ≤ 16
   context-small =
-      let n = length (job ps ts es qs .points) in
-      leb-true n 16 (and-true (leb 4 n) (leb n 16) (and-true (eqb (length ps % 3) 0) (leb 4 n && leb n 16) (accepted ps ts es qs (x .accepted) .shape) .1) .1)
+      let n = length (job (job-lists ps ts es qs) .points) in
+      leb-true n 16 (and-true (leb 4 n) (leb n 16) (and-true (eqb (length ps % 3) 0) (leb 4 n && leb n 16) (accepted (job-lists ps ts es qs) (x .accepted) .shape) .1) .1)
 
   pub context-count : length (fours-in m fours) ≡ m
   context-count = fours-in-length m fours
 
   -- one more is set
   pub ready-placed :
-      {t : ℕ} {ms ns : List ℕ} → t < m → getD ms t 0 ≡ 1 → Placed (job ps ts es qs) (fours-in m fours) t ms ns → Ready (job ps ts es qs) (fours-in m fours) ms →
-      Ready (job ps ts es qs) (fours-in m fours) ns
+      {t : ℕ} {ms ns : List ℕ} → t < m → getD ms t 0 ≡ 1 → Placed (job (job-lists ps ts es qs)) (fours-in m fours) t ms ns → Ready (job (job-lists ps ts es qs)) (fours-in m fours) ms →
+      Ready (job (job-lists ps ts es qs)) (fours-in m fours) ns
   ready-placed l a p r = record { fit = placed-fit (rw context-count l) p context-sorted a (r .fit) }
 
-  pub live-placed : {t : ℕ} {ms ns : List ℕ} → t < m → getD ms t 0 ≡ 1 → Placed (job ps ts es qs) (fours-in m fours) t ms ns → live m ns < live m ms
+  pub live-placed : {t : ℕ} {ms ns : List ℕ} → t < m → getD ms t 0 ≡ 1 → Placed (job (job-lists ps ts es qs)) (fours-in m fours) t ms ns → live m ns < live m ms
   live-placed {t} {ms} {ns} l a p = subst (λ (n : ℕ). live n ns < live n ms) context-count (placed-falls (rw context-count l) p a)
 
   pub cornered-placed :
-      {t : ℕ} {ms ns rs : List ℕ} {found : Bool} → t < m → getD ms t 0 ≡ 1 → Placed (job ps ts es qs) (fours-in m fours) t ms ns →
-      Extended (job ps ts es qs) (fours-in m fours) ns found rs → Cornered (job ps ts es qs) (fours-in m fours) ms t found rs
+      {t : ℕ} {ms ns rs : List ℕ} {found : Bool} → t < m → getD ms t 0 ≡ 1 → Placed (job (job-lists ps ts es qs)) (fours-in m fours) t ms ns →
+      Extended (job (job-lists ps ts es qs)) (fours-in m fours) ns found rs → Cornered (job (job-lists ps ts es qs)) (fours-in m fours) ms t found rs
   cornered-placed l a p e = cornered (rw context-count l) p context-sorted a e
 
   -- some are dropped
   pub ready-reduced :
-      {ms ns : List ℕ} → Reduced (job ps ts es qs) (fours-in m fours) ms ns → Ready (job ps ts es qs) (fours-in m fours) ms → Ready (job ps ts es qs) (fours-in m fours) ns
+      {ms ns : List ℕ} → Reduced (job (job-lists ps ts es qs)) (fours-in m fours) ms ns → Ready (job (job-lists ps ts es qs)) (fours-in m fours) ms → Ready (job (job-lists ps ts es qs)) (fours-in m fours) ns
   ready-reduced d r = record { fit = reduced-fit d (r .fit) }
 
-  pub live-reduced : {ms ns : List ℕ} → Reduced (job ps ts es qs) (fours-in m fours) ms ns → live m ns ≤ live m ms
+  pub live-reduced : {ms ns : List ℕ} → Reduced (job (job-lists ps ts es qs)) (fours-in m fours) ms ns → live m ns ≤ live m ms
   live-reduced {ms} {ns} d = subst (λ (n : ℕ). live n ns ≤ live n ms) context-count (reduced-falls d)
 
   -- all tried, none found
   pub tried-none :
-      {c : ℕ} {ms ns : List ℕ} → Open-at (job ps ts es qs) (marked 2 (fours-in m fours) ms) c → Tried (job ps ts es qs) (fours-in m fours) codes c ms ns m →
-      (F : List Four) → Fills (job ps ts es qs) (fours-in m fours) ms F → ⊥
+      {c : ℕ} {ms ns : List ℕ} → Open-at (job (job-lists ps ts es qs)) (marked 2 (fours-in m fours) ms) c → Tried (job (job-lists ps ts es qs)) (fours-in m fours) codes c ms ns m →
+      (F : List Four) → Fills (job (job-lists ps ts es qs)) (fours-in m fours) ms F → ⊥
   tried-none {c} {ms} {ns} o t F e =
       none-face (fours-in m fours) ns (o .face)
-      (subst (λ (S : List Four). open-face (job ps ts es qs .triangles) (all-faces (job ps ts es qs .points) S) (o .face) ≡ true) (sym (reduced-set (t .reduced) context-sorted)) (o .still))
-      (λ k l a. absent k l a (true-or-false (has (o .face) (faces (turned (job ps ts es qs .points) (nth (fours-in m fours) k)))))) F (t .reduced .keeps F e)
+      (subst (λ (S : List Four). open-face (job (job-lists ps ts es qs) .triangles) (all-faces (job (job-lists ps ts es qs) .points) S) (o .face) ≡ true) (sym (reduced-set (t .reduced) context-sorted)) (o .still))
+      (λ k l a. absent k l a (true-or-false (has (o .face) (faces (turned (job (job-lists ps ts es qs) .points) (nth (fours-in m fours) k)))))) F (t .reduced .keeps F e)
     where
-      good : Each (Well-formed (length (job ps ts es qs .points))) (fours-in m fours)
-      good = law-1-well-formed (length (job ps ts es qs .points)) (fours-in m fours) (x .pool .order)
+      good : Each (Well-formed (length (job (job-lists ps ts es qs) .points))) (fours-in m fours)
+      good = law-1-well-formed (length (job (job-lists ps ts es qs) .points)) (fours-in m fours) (x .pool .order)
 
       absent :
           (k : ℕ) → k < length (fours-in m fours) → getD ns k 0 ≡ 1 →
-          (has (o .face) (faces (turned (job ps ts es qs .points) (nth (fours-in m fours) k))) ≡ true) ⊎ (has (o .face) (faces (turned (job ps ts es qs .points) (nth (fours-in m fours) k))) ≡ false) →
-          has (o .face) (faces (turned (job ps ts es qs .points) (nth (fours-in m fours) k))) ≡ false
+          (has (o .face) (faces (turned (job (job-lists ps ts es qs) .points) (nth (fours-in m fours) k))) ≡ true) ⊎ (has (o .face) (faces (turned (job (job-lists ps ts es qs) .points) (nth (fours-in m fours) k))) ≡ false) →
+          has (o .face) (faces (turned (job (job-lists ps ts es qs) .points) (nth (fours-in m fours) k))) ≡ false
       absent k l a (inl h) =
           absurd (t .tried k (omega (arith, context-count)) a (subst (λ (d : ℕ). Owns codes k d) (o .code) (has-owns context-small good (x .faces) (o .face) k l h)))
       absent k l a (inr h) = h
 
   -- ---- thinning and choosing
-  context-good : Each (Well-formed (length (job ps ts es qs .points))) (fours-in m fours)
-  context-good = law-1-well-formed (length (job ps ts es qs .points)) (fours-in m fours) (x .pool .order)
+  context-good : Each (Well-formed (length (job (job-lists ps ts es qs) .points))) (fours-in m fours)
+  context-good = law-1-well-formed (length (job (job-lists ps ts es qs) .points)) (fours-in m fours) (x .pool .order)
 
-  context-proper : Each Proper (job ps ts es qs .triangles)
-  context-proper = boundary-proper (length (job ps ts es qs .points)) (job ps ts es qs .triangles) context-small (accepted ps ts es qs (x .accepted) .tris-good)
+  context-proper : Each Proper (job (job-lists ps ts es qs) .triangles)
+  context-proper = boundary-proper (length (job (job-lists ps ts es qs) .points)) (job (job-lists ps ts es qs) .triangles) context-small (accepted (job-lists ps ts es qs) (x .accepted) .tris-good)
 
-  pub context-boundary : Boundary (job ps ts es qs .triangles)
+  pub context-boundary : Boundary (job (job-lists ps ts es qs) .triangles)
   context-boundary = boundary ps ts es qs (x .accepted)
 
   -- every face number is below 4096
@@ -112,7 +113,7 @@ module _ {ps : List ℤ} {ts es : List ℕ} {qs : List ℤ} {fours codes bound :
       let q : getD codes (i / 4 * 4 + i % 4) 0 < 4096 = subst (λ (c : ℕ). c < 4096) (sym (x .faces .each (i / 4) (i % 4) (rw context-count k) r)) (face-code-below _ p) in
       subst (λ (n : ℕ). getD codes n 0 < 4096) e q
 
-  own-moved : {ms ns own : List ℕ} → Reduced (job ps ts es qs) (fours-in m fours) ms ns → Owner-flags m codes ms 2 own → Owner-flags (length (fours-in m fours)) codes ns 2 own
+  own-moved : {ms ns own : List ℕ} → Reduced (job (job-lists ps ts es qs)) (fours-in m fours) ms ns → Owner-flags m codes ms 2 own → Owner-flags (length (fours-in m fours)) codes ns 2 own
   own-moved {ms} {ns} {own} d o =
       record {
         yes = λ c h. let w = o .yes c h in record { number = w .number; below = rw context-count (w .below); mark = d .stays (w .number) (rw context-count (w .below)) (w .mark); owns = w .owns };
@@ -121,11 +122,11 @@ module _ {ps : List ℤ} {ts es : List ℕ} {qs : List ℤ} {fours codes bound :
 
   pub reduced-thin :
       {ms ns own lv : List ℕ} {k c : ℕ} → Owner-flags m codes ms 2 own → Owner-flags m codes ms 1 lv → k < m → getD ns k 0 ≡ 1 → Owns codes k c →
-      open-code own bound c ≡ false → getD lv (flip-code c) 0 ≡ 0 → Reduced (job ps ts es qs) (fours-in m fours) ms ns → Reduced (job ps ts es qs) (fours-in m fours) ms (set ns k 0)
+      open-code own bound c ≡ false → getD lv (flip-code c) 0 ≡ 0 → Reduced (job (job-lists ps ts es qs)) (fours-in m fours) ms ns → Reduced (job (job-lists ps ts es qs)) (fours-in m fours) ms (set ns k 0)
   reduced-thin {ms} {ns} {own} {lv} {k} {c} o v l a w f z d =
       reduced-trans d
       (reduced-drop ns k (rw context-count l) a
-      (useless-by-code (job ps ts es qs) ns context-small context-good (x .faces) context-proper (own-moved d o) (x .bounds) k c (rw context-count l) w f
+      (useless-by-code (job (job-lists ps ts es qs)) ns context-small context-good (x .faces) context-proper (own-moved d o) (x .bounds) k c (rw context-count l) w f
       (λ u. clash z (v .no (flip-code c) (record { number = u .number; below = rw context-count at (u .below); mark = d .fewer (u .number) (u .below) (u .mark); owns = u .owns })))))
     where
       clash : {n : ℕ} → n ≡ 0 → 0 < n → ⊥
@@ -133,12 +134,12 @@ module _ {ps : List ℤ} {ts es : List ℕ} {qs : List ℤ} {fours codes bound :
 
   -- an open face that no alive candidate has
   pub settles-hopeless :
-      {ms ns own lv : List ℕ} {c : ℕ} → Reduced (job ps ts es qs) (fours-in m fours) ms ns → Owner-flags m codes ms 2 own → Owner-flags m codes ns 1 lv →
-      open-code own bound c ≡ true → getD lv c 0 ≡ 0 → Settles (job ps ts es qs) (fours-in m fours) ms 0 c ns
+      {ms ns own lv : List ℕ} {c : ℕ} → Reduced (job (job-lists ps ts es qs)) (fours-in m fours) ms ns → Owner-flags m codes ms 2 own → Owner-flags m codes ns 1 lv →
+      open-code own bound c ≡ true → getD lv c 0 ≡ 0 → Settles (job (job-lists ps ts es qs)) (fours-in m fours) ms 0 c ns
   settles-hopeless {ms} {ns} {own} {lv} {c} d o v h z =
       record {
         reduced = d;
-        hopeless = λ e. none-open-code (job ps ts es qs) ns context-small context-good (x .faces) context-proper (own-moved d o) (x .bounds) c h
+        hopeless = λ e. none-open-code (job (job-lists ps ts es qs)) ns context-small context-good (x .faces) context-proper (own-moved d o) (x .bounds) c h
             (λ u. clash z (v .no c (record { number = u .number; below = rw context-count at (u .below); mark = u .mark; owns = u .owns })));
         done = λ e. absurd (omega arith);
         opens = λ e. absurd (e refl);
@@ -149,42 +150,42 @@ module _ {ps : List ℤ} {ts es : List ℕ} {qs : List ℤ} {fours codes bound :
 
   -- an open face to go on with
   pub settles-open :
-      {ms ns own : List ℕ} {c : ℕ} → Reduced (job ps ts es qs) (fours-in m fours) ms ns → Owner-flags m codes ms 2 own → open-code own bound c ≡ true →
-      Settles (job ps ts es qs) (fours-in m fours) ms 2 c ns
+      {ms ns own : List ℕ} {c : ℕ} → Reduced (job (job-lists ps ts es qs)) (fours-in m fours) ms ns → Owner-flags m codes ms 2 own → open-code own bound c ≡ true →
+      Settles (job (job-lists ps ts es qs)) (fours-in m fours) ms 2 c ns
   settles-open {ms} {ns} {own} {c} d o h =
       record {
         reduced = d;
         hopeless = λ e. absurd (omega arith);
         done = λ e. absurd (omega arith);
-        opens = λ e f. open-at (job ps ts es qs) ns context-small context-good (x .faces) context-proper (own-moved d o) (x .bounds) c h;
+        opens = λ e f. open-at (job (job-lists ps ts es qs)) ns context-small context-good (x .faces) context-proper (own-moved d o) (x .bounds) c h;
       }
 
   -- nothing open: laws 6 and 7 decide
   pub settles-covered :
-      {ms ns own : List ℕ} {c : ℕ} → Ready (job ps ts es qs) (fours-in m fours) ms → Reduced (job ps ts es qs) (fours-in m fours) ms ns → Owner-flags m codes ms 2 own →
-      ((c : ℕ) → c < 4096 → open-code own bound c ≡ false) → (law-6 (job ps ts es qs) (marked 2 (fours-in m fours) ns) && law-7 (job ps ts es qs) (marked 2 (fours-in m fours) ns)) ≡ true →
-      Settles (job ps ts es qs) (fours-in m fours) ms 1 c ns
+      {ms ns own : List ℕ} {c : ℕ} → Ready (job (job-lists ps ts es qs)) (fours-in m fours) ms → Reduced (job (job-lists ps ts es qs)) (fours-in m fours) ms ns → Owner-flags m codes ms 2 own →
+      ((c : ℕ) → c < 4096 → open-code own bound c ≡ false) → (law-6 (job (job-lists ps ts es qs)) (marked 2 (fours-in m fours) ns) && law-7 (job (job-lists ps ts es qs)) (marked 2 (fours-in m fours) ns)) ≡ true →
+      Settles (job (job-lists ps ts es qs)) (fours-in m fours) ms 1 c ns
   settles-covered {ms} {ns} {own} {c} r d o h l =
       let S = marked 2 (fours-in m fours) ns in
-      let p = and-true (law-6 (job ps ts es qs) S) (law-7 (job ps ts es qs) S) l in
+      let p = and-true (law-6 (job (job-lists ps ts es qs)) S) (law-7 (job (job-lists ps ts es qs)) S) l in
       record {
         reduced = d;
         hopeless = λ e. absurd (omega arith);
         done = λ e.
             found-marks ns context-sorted (reduced-fit d (r .fit))
-            (none-open (job ps ts es qs) ns context-small context-good (x .faces) context-proper (own-moved d o) (x .bounds) h) (law-6-true (job ps ts es qs) S (p .0)) (law-7-true (job ps ts es qs) S (p .1));
+            (none-open (job (job-lists ps ts es qs)) ns context-small context-good (x .faces) context-proper (own-moved d o) (x .bounds) h) (law-6-true (job (job-lists ps ts es qs)) S (p .0)) (law-7-true (job (job-lists ps ts es qs)) S (p .1));
         opens = λ e f. absurd (f refl);
       }
 
   pub settles-uncovered :
-      {ms ns own : List ℕ} {c : ℕ} → Reduced (job ps ts es qs) (fours-in m fours) ms ns → Owner-flags m codes ms 2 own → ((c : ℕ) → c < 4096 → open-code own bound c ≡ false) →
-      (law-6 (job ps ts es qs) (marked 2 (fours-in m fours) ns) && law-7 (job ps ts es qs) (marked 2 (fours-in m fours) ns)) ≡ false →
-      Settles (job ps ts es qs) (fours-in m fours) ms 0 c ns
+      {ms ns own : List ℕ} {c : ℕ} → Reduced (job (job-lists ps ts es qs)) (fours-in m fours) ms ns → Owner-flags m codes ms 2 own → ((c : ℕ) → c < 4096 → open-code own bound c ≡ false) →
+      (law-6 (job (job-lists ps ts es qs)) (marked 2 (fours-in m fours) ns) && law-7 (job (job-lists ps ts es qs)) (marked 2 (fours-in m fours) ns)) ≡ false →
+      Settles (job (job-lists ps ts es qs)) (fours-in m fours) ms 0 c ns
   settles-uncovered {ms} {ns} {own} {c} d o h l =
       record {
         reduced = d;
         hopeless = λ e. none-closed ns context-boundary context-sorted
-            (none-open (job ps ts es qs) ns context-small context-good (x .faces) context-proper (own-moved d o) (x .bounds) h) l;
+            (none-open (job (job-lists ps ts es qs)) ns context-small context-good (x .faces) context-proper (own-moved d o) (x .bounds) h) l;
         done = λ e. absurd (omega arith);
         opens = λ e. absurd (e refl);
       }

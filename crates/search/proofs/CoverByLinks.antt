@@ -9,6 +9,7 @@ use lib.ListN.{length, getD, drop}
 use lib.IntN.{ℤ}
 use Rattle.geometry.specs.declared.tetrahedron.Four.{Four}
 use Rattle.laws.specs.Laws.{Edge, corner-of, law-6, law-7, fours-in}
+use Rattle.laws.specs.Lists.{job-lists}
 use Rattle.laws.specs.Check.{job, edges-in}
 use Rattle.laws.specs.inner.Members.{Any, here, there}
 use Rattle.laws.proofs.Basics.Tests.{and-of, and-true, true-or-false}
@@ -62,7 +63,7 @@ module _
         go (inr e) = e ∙ q
 
     -- neither set nor alive: no filling covers it
-    pub unlinked-hopeless : v ≡ 1 → w ≡ 2 → Unlinked (length ps / 3) es flags → (F : List Four) → Fills (job ps ts es qs) (fours-in m fours) ms F → ⊥
+    pub unlinked-hopeless : v ≡ 1 → w ≡ 2 → Unlinked (length ps / 3) es flags → (F : List Four) → Fills (job (job-lists ps ts es qs)) (fours-in m fours) ms F → ⊥
     unfolding job
     unlinked-hopeless a b (point p h z) =
         none-point (fours-in m fours) ms p (omega (arith, points-count ps)) (corner-none (fours-in m fours) ms p (λ k g e. off-point p k (omega arith) g (inr (e ∙ sym b)) z))
@@ -73,7 +74,7 @@ module _
 
     -- the set ones alone: laws 6 and 7
     pub linked-covered :
-        v ≡ 2 → w ≡ 2 → All-linked (length ps / 3) es flags → (law-6 (job ps ts es qs) (marked 2 (fours-in m fours) ms) && law-7 (job ps ts es qs) (marked 2 (fours-in m fours) ms)) ≡ true
+        v ≡ 2 → w ≡ 2 → All-linked (length ps / 3) es flags → (law-6 (job (job-lists ps ts es qs)) (marked 2 (fours-in m fours) ms) && law-7 (job (job-lists ps ts es qs)) (marked 2 (fours-in m fours) ms)) ≡ true
     linked-covered a b y =
         covered-all ps ts es qs (marked 2 (fours-in m fours) ms)
         (λ p h. let r = l .yes p p (omega arith) (omega arith) (y .points p h) in corner-number (fours-in m fours) ms p (r .number) (rw (fours-in-length m fours) (r .below)) (link-number a b r) (r .from))
@@ -82,7 +83,7 @@ module _
         edge-number (fours-in m fours) ms (edge-at es i) (r .number) (rw (fours-in-length m fours) (r .below)) (link-number a b r) (and-of (r .from) (r .to)))
 
     pub unlinked-uncovered :
-        v ≡ 2 → Unlinked (length ps / 3) es flags → (law-6 (job ps ts es qs) (marked 2 (fours-in m fours) ms) && law-7 (job ps ts es qs) (marked 2 (fours-in m fours) ms)) ≡ false
+        v ≡ 2 → Unlinked (length ps / 3) es flags → (law-6 (job (job-lists ps ts es qs)) (marked 2 (fours-in m fours) ms) && law-7 (job (job-lists ps ts es qs)) (marked 2 (fours-in m fours) ms)) ≡ false
     unlinked-uncovered a (point p h z) =
         uncovered-point ps ts es qs (marked 2 (fours-in m fours) ms) p h (corner-none (fours-in m fours) ms p (λ k g e. off-point p k (omega arith) g (inl (e ∙ sym a)) z))
     unlinked-uncovered a (edge i h z) =

@@ -13,6 +13,7 @@ use lib.IntN.{ℤ}
 use Rattle.geometry.specs.Space.{four, points-in}
 use Rattle.geometry.specs.declared.tetrahedron.Four.{Four}
 use Rattle.laws.specs.Laws.{Edge, corner-of, is-corner, holds-edge, all-kept, law-6, law-7, fours-in}
+use Rattle.laws.specs.Lists.{job-lists}
 use Rattle.laws.specs.Check.{job, edges-in}
 use Rattle.laws.proofs.Basics.Tests.{contradiction, and-true, and-of, true-or-false}
 use Rattle.laws.proofs.Basics.Lists.{find, any-of-member}
@@ -120,25 +121,25 @@ numbers-of-all-kept (suc n) es S h (suc i) l =
 module _ (ps : List ℤ) (ts es : List ℕ) (qs : List ℤ) (S : List Four) where
   pub covered-all :
       ((p : ℕ) → p < length ps / 3 → is-corner p S ≡ true) → ((i : ℕ) → i < length es / 2 → holds-edge (edge-at es i) S ≡ true) →
-      (law-6 (job ps ts es qs) S && law-7 (job ps ts es qs) S) ≡ true
+      (law-6 (job (job-lists ps ts es qs)) S && law-7 (job (job-lists ps ts es qs)) S) ≡ true
   unfolding job law-7
-  covered-all h k = and-of (law-6-of (job ps ts es qs) S (λ p l. h p (omega (arith, points-count ps)))) (all-kept-of-numbers (length es / 2) es S k)
+  covered-all h k = and-of (law-6-of (job (job-lists ps ts es qs)) S (λ p l. h p (omega (arith, points-count ps)))) (all-kept-of-numbers (length es / 2) es S k)
 
-  pub uncovered-point : (p : ℕ) → p < length ps / 3 → is-corner p S ≡ false → (law-6 (job ps ts es qs) S && law-7 (job ps ts es qs) S) ≡ false
+  pub uncovered-point : (p : ℕ) → p < length ps / 3 → is-corner p S ≡ false → (law-6 (job (job-lists ps ts es qs)) S && law-7 (job (job-lists ps ts es qs)) S) ≡ false
   unfolding job law-7
-  uncovered-point p l n = go (true-or-false (law-6 (job ps ts es qs) S))
+  uncovered-point p l n = go (true-or-false (law-6 (job (job-lists ps ts es qs)) S))
     where
-      go : (law-6 (job ps ts es qs) S ≡ true) ⊎ (law-6 (job ps ts es qs) S ≡ false) → (law-6 (job ps ts es qs) S && law-7 (job ps ts es qs) S) ≡ false
-      go (inl e) = contradiction (law-6-true (job ps ts es qs) S e p (omega (arith, points-count ps))) n
+      go : (law-6 (job (job-lists ps ts es qs)) S ≡ true) ⊎ (law-6 (job (job-lists ps ts es qs)) S ≡ false) → (law-6 (job (job-lists ps ts es qs)) S && law-7 (job (job-lists ps ts es qs)) S) ≡ false
+      go (inl e) = contradiction (law-6-true (job (job-lists ps ts es qs)) S e p (omega (arith, points-count ps))) n
       go (inr e) = rw e refl
 
-  pub uncovered-edge : (i : ℕ) → i < length es / 2 → holds-edge (edge-at es i) S ≡ false → (law-6 (job ps ts es qs) S && law-7 (job ps ts es qs) S) ≡ false
+  pub uncovered-edge : (i : ℕ) → i < length es / 2 → holds-edge (edge-at es i) S ≡ false → (law-6 (job (job-lists ps ts es qs)) S && law-7 (job (job-lists ps ts es qs)) S) ≡ false
   unfolding job law-7
-  uncovered-edge i l n = go (true-or-false (law-6 (job ps ts es qs) S)) (true-or-false (all-kept (edges-in (length es / 2) es) S))
+  uncovered-edge i l n = go (true-or-false (law-6 (job (job-lists ps ts es qs)) S)) (true-or-false (all-kept (edges-in (length es / 2) es) S))
     where
       go :
-          (law-6 (job ps ts es qs) S ≡ true) ⊎ (law-6 (job ps ts es qs) S ≡ false) → (all-kept (edges-in (length es / 2) es) S ≡ true) ⊎ (all-kept (edges-in (length es / 2) es) S ≡ false) →
-          (law-6 (job ps ts es qs) S && law-7 (job ps ts es qs) S) ≡ false
+          (law-6 (job (job-lists ps ts es qs)) S ≡ true) ⊎ (law-6 (job (job-lists ps ts es qs)) S ≡ false) → (all-kept (edges-in (length es / 2) es) S ≡ true) ⊎ (all-kept (edges-in (length es / 2) es) S ≡ false) →
+          (law-6 (job (job-lists ps ts es qs)) S && law-7 (job (job-lists ps ts es qs)) S) ≡ false
       go (inr e) d = rw e refl
       go (inl e) (inl d) = contradiction (numbers-of-all-kept (length es / 2) es S d i l) n
       go (inl e) (inr d) = rw (e, d) refl

@@ -11,6 +11,7 @@ use lib.Seq.{getD-set-same}
 use lib.IntN.{ℤ}
 use Rattle.geometry.specs.declared.tetrahedron.Four.{Four}
 use Rattle.laws.specs.Laws.{Job, fours-in, worst, Best}
+use Rattle.laws.specs.Lists.{job-lists}
 use Rattle.laws.specs.Check.{job}
 use Rattle.search.specs.Marks.{marked, Fills, Placed, Reduced, Cornered}
 use Rattle.search.specs.Steps.{Context, Ready, Settles}
@@ -52,8 +53,8 @@ below-count {i} {m} fours l = subst (λ (n : ℕ). i < n) (sym (fours-in-length 
 module _ {ps : List ℤ} {ts es : List ℕ} {qs : List ℤ} {fours codes bound : List ℕ} {m : ℕ} (x : Context ps ts es qs fours codes bound m) {q k : ℕ} {ws ss : List ℕ} where
   -- the next one is in the witness, and is committed
   pub committed-placed :
-      {ns : List ℕ} → k < m → getD ss k 0 ≡ 1 → getD ws k 0 ≡ 2 → Placed (job ps ts es qs) (fours-in m fours) k ss ns → Committed (job ps ts es qs) q (fours-in m fours) ws ss k →
-      Committed (job ps ts es qs) q (fours-in m fours) ws ns (suc k)
+      {ns : List ℕ} → k < m → getD ss k 0 ≡ 1 → getD ws k 0 ≡ 2 → Placed (job (job-lists ps ts es qs)) (fours-in m fours) k ss ns → Committed (job (job-lists ps ts es qs)) q (fours-in m fours) ws ss k →
+      Committed (job (job-lists ps ts es qs)) q (fours-in m fours) ws ns (suc k)
   committed-placed {ns} l a e p c =
       record {
         first = first-placed k (context-boundary x) (context-sorted x) (below-count fours l) (c .passed) p (number-marked 2 (fours-in m fours) ws k (below-count fours l) e) (c .first);
@@ -64,8 +65,8 @@ module _ {ps : List ℤ} {ts es : List ℕ} {qs : List ℤ} {fours codes bound :
 
   -- it is not, and a filling with it is found, which becomes the witness
   pub committed-tried :
-      {rs : List ℕ} {found : Bool} → k < m → (getD ws k 0 ≡ 2 → ⊥) → found ≡ true → Cornered (job ps ts es qs) (fours-in m fours) ss k found rs →
-      Committed (job ps ts es qs) q (fours-in m fours) ws ss k → Committed (job ps ts es qs) q (fours-in m fours) rs ss k × (getD rs k 0 ≡ 2)
+      {rs : List ℕ} {found : Bool} → k < m → (getD ws k 0 ≡ 2 → ⊥) → found ≡ true → Cornered (job (job-lists ps ts es qs)) (fours-in m fours) ss k found rs →
+      Committed (job (job-lists ps ts es qs)) q (fours-in m fours) ws ss k → Committed (job (job-lists ps ts es qs)) q (fours-in m fours) rs ss k × (getD rs k 0 ≡ 2)
   committed-tried {rs} l n y r c =
       let w = r .yes y in (
         record {
@@ -81,8 +82,8 @@ module _ {ps : List ℤ} {ts es : List ℕ} {qs : List ℤ} {fours codes bound :
 
   -- some are dropped
   pub committed-reduced :
-      {ns : List ℕ} → k ≤ m → Reduced (job ps ts es qs) (fours-in m fours) ss ns → Committed (job ps ts es qs) q (fours-in m fours) ws ss k →
-      Committed (job ps ts es qs) q (fours-in m fours) ws ns k
+      {ns : List ℕ} → k ≤ m → Reduced (job (job-lists ps ts es qs)) (fours-in m fours) ss ns → Committed (job (job-lists ps ts es qs)) q (fours-in m fours) ws ss k →
+      Committed (job (job-lists ps ts es qs)) q (fours-in m fours) ws ns k
   committed-reduced {ns} l r c =
       record {
         first = first-reduced r (c .first);
@@ -92,21 +93,21 @@ module _ {ps : List ℤ} {ts es : List ℕ} {qs : List ℤ} {fours codes bound :
       }
 
   -- it is no longer alive
-  pub committed-skipped : (getD ss k 0 ≡ 1 → ⊥) → Committed (job ps ts es qs) q (fours-in m fours) ws ss k → Committed (job ps ts es qs) q (fours-in m fours) ws ss (suc k)
+  pub committed-skipped : (getD ss k 0 ≡ 1 → ⊥) → Committed (job (job-lists ps ts es qs)) q (fours-in m fours) ws ss k → Committed (job (job-lists ps ts es qs)) q (fours-in m fours) ws ss (suc k)
   committed-skipped n c = record { first = c .first; ready = c .ready; passed = one-more k (c .passed) n; worth = c .worth }
 
 module _ {ps : List ℤ} {ts es : List ℕ} {qs : List ℤ} {fours codes bound : List ℕ} {m : ℕ} (x : Context ps ts es qs fours codes bound m) {q : ℕ} where
   -- it is not, and there is none with it: it is dropped
   pub committed-dropped :
-      {k : ℕ} {ws ss rs : List ℕ} {found : Bool} → k < m → getD ss k 0 ≡ 1 → found ≡ false → Cornered (job ps ts es qs) (fours-in m fours) ss k found rs →
-      Committed (job ps ts es qs) q (fours-in m fours) ws ss k → Committed (job ps ts es qs) q (fours-in m fours) ws (set ss k 0) (suc k)
+      {k : ℕ} {ws ss rs : List ℕ} {found : Bool} → k < m → getD ss k 0 ≡ 1 → found ≡ false → Cornered (job (job-lists ps ts es qs)) (fours-in m fours) ss k found rs →
+      Committed (job (job-lists ps ts es qs)) q (fours-in m fours) ws ss k → Committed (job (job-lists ps ts es qs)) q (fours-in m fours) ws (set ss k 0) (suc k)
   committed-dropped {k} {ws} {ss} l a n r c =
       committed-skipped x (λ d. clash 1 0 (λ z. omega arith) d (getD-set-same ss k 0 0 (mark-within 0 ss k a)))
       (committed-reduced x (omega arith) (reduced-failed ss k (below-count fours l) a n r) c)
 
   -- ---- the start and the two ends
   module _ {quals ms : List ℕ} (h : Highest ps ts es qs fours codes quals m q (suc q) ms) where
-    pub committed-start : {ss : List ℕ} → Alive-from quals m q ss → Committed (job ps ts es qs) q (fours-in m fours) ms ss 0
+    pub committed-start : {ss : List ℕ} → Alive-from quals m q ss → Committed (job (job-lists ps ts es qs)) q (fours-in m fours) ms ss 0
     committed-start {ss} s =
         let t = alive-started (h .whole .filed) s in
         let b = highest-bounds (x .accepted) h in
@@ -117,18 +118,18 @@ module _ {ps : List ℤ} {ts es : List ℕ} {qs : List ℤ} {fours codes bound :
           worth = λ F e. found-worth (x .pool) (le-refl (suc q)) b t e;
         }
 
-    pub committed-ended : {ws ss : List ℕ} → Committed (job ps ts es qs) q (fours-in m fours) ws ss m → Best (job ps ts es qs) (marked 2 (fours-in m fours) ws)
+    pub committed-ended : {ws ss : List ℕ} → Committed (job (job-lists ps ts es qs)) q (fours-in m fours) ws ss m → Best (job (job-lists ps ts es qs)) (marked 2 (fours-in m fours) ws)
     committed-ended {ws} {ss} c =
         best-passed (fours-in m fours) ss (context-boundary x) (le-refl (suc q)) (highest-bounds (x .accepted) h)
         (λ i l. c .passed i (subst (λ (n : ℕ). i < n) (context-count x) l)) (c .first)
 
     -- what is committed is a filling: there is no other
     pub committed-done :
-        {ws ss ns : List ℕ} {k kind face : ℕ} → Settles (job ps ts es qs) (fours-in m fours) ss kind face ns → kind ≡ 1 → Committed (job ps ts es qs) q (fours-in m fours) ws ss k →
-        Best (job ps ts es qs) (marked 2 (fours-in m fours) ws)
+        {ws ss ns : List ℕ} {k kind face : ℕ} → Settles (job (job-lists ps ts es qs)) (fours-in m fours) ss kind face ns → kind ≡ 1 → Committed (job (job-lists ps ts es qs)) q (fours-in m fours) ws ss k →
+        Best (job (job-lists ps ts es qs)) (marked 2 (fours-in m fours) ws)
     committed-done {ws} {ss} {ns} z e c =
         let i = first-reduced (z .reduced) (c .first) in
-        let j = job ps ts es qs in
+        let j = job (job-lists ps ts es qs) in
         let S = marked 2 (fours-in m fours) ns in
         let f = z .done e in
         first-best (bounds-end (le-refl (suc q)) (highest-bounds (x .accepted) h))

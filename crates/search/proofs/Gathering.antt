@@ -12,6 +12,7 @@ use Rattle.geometry.specs.Space.{points-in, four, turned}
 use Rattle.geometry.specs.Range.{Present}
 use Rattle.geometry.specs.declared.tetrahedron.Four.{Four}
 use Rattle.laws.specs.Laws.{Job, choose, entry, quality, fours-in}
+use Rattle.laws.specs.Lists.{job-lists}
 use Rattle.laws.specs.Check.{job, job-refusal}
 use Rattle.laws.proofs.Basics.Tests.{and-true}
 use Rattle.laws.proofs.Basics.Lists.{each-of-members}
@@ -35,17 +36,17 @@ pub record Measured (ps qs : List ℤ) : Type 0 where
   pub most : length (points-in ps) ≤ 16
   pub table : length qs ≡ choose (length (points-in ps)) 4
 
-pub measured : (ps : List ℤ) (ts es : List ℕ) (qs : List ℤ) → job-refusal ps ts es qs ≡ 0 → Measured ps qs
+pub measured : (ps : List ℤ) (ts es : List ℕ) (qs : List ℤ) → job-refusal (job-lists ps ts es qs) ≡ 0 → Measured ps qs
 unfolding job
 measured ps ts es qs h =
     let n = length (points-in ps) in
-    let a = accepted ps ts es qs h in
+    let a = accepted (job-lists ps ts es qs) h in
     let s = and-true (leb 4 n) (leb n 16) (and-true (eqb (length ps % 3) 0) (leb 4 n && leb n 16) (a .shape) .1) in
     record { least = leb-true 4 n (s .0); most = leb-true n 16 (s .1); table = eqb-true (length qs) (choose n 4) (a .table-shape) }
 
-pub stage-present : (ps : List ℤ) (ts es : List ℕ) (qs : List ℤ) (f : Four) → job-refusal ps ts es qs ≡ 0 → Stage (length (points-in ps)) f → Present ps f
+pub stage-present : (ps : List ℤ) (ts es : List ℕ) (qs : List ℤ) (f : Four) → job-refusal (job-lists ps ts es qs) ≡ 0 → Stage (length (points-in ps)) f → Present ps f
 stage-present ps ts es qs f h s =
-    record { near = accepted ps ts es qs h .near; a = omega arith; b = omega arith; c = omega arith; d = s .below }
+    record { near = accepted (job-lists ps ts es qs) h .near; a = omega arith; b = omega arith; c = omega arith; d = s .below }
 
 pub stage-small : {n : ℕ} {f : Four} → n ≤ 16 → Stage n f → (f .a < 16) × (f .b < 16) × (f .c < 16) × (f .d < 16)
 stage-small h s = (omega arith, omega arith, omega arith, omega arith)
@@ -135,21 +136,21 @@ gathering-next s w g =
 -- ---- the same of the job that the lists denote
 module _ (ps : List ℤ) (ts es : List ℕ) (qs : List ℤ) where
   pub room-for :
-      {q : ℕ} {fours codes quals : List ℕ} {k : ℕ} {f : Four} → length (points-in ps) ≤ 16 → Gathering (job ps ts es qs) q fours codes quals k f → candidate (job ps ts es qs) f ≡ true → k < 1820
+      {q : ℕ} {fours codes quals : List ℕ} {k : ℕ} {f : Four} → length (points-in ps) ≤ 16 → Gathering (job (job-lists ps ts es qs)) q fours codes quals k f → candidate (job (job-lists ps ts es qs)) f ≡ true → k < 1820
   unfolding job
   room-for h w y = gathering-room h w y
 
   module _ {n : ℕ} (points : n ≡ length (points-in ps)) where
     pub gathering-step :
-        {q : ℕ} {fours codes quals fours2 codes2 quals2 : List ℕ} {k r : ℕ} {f h : Four} → length (points-in ps) ≤ 16 → Stage n f → Gathering (job ps ts es qs) q fours codes quals k f →
-        Considered (job ps ts es qs) q f fours codes quals k fours2 codes2 quals2 r → Follows n f h → Gathering (job ps ts es qs) q fours2 codes2 quals2 r h
+        {q : ℕ} {fours codes quals fours2 codes2 quals2 : List ℕ} {k r : ℕ} {f h : Four} → length (points-in ps) ≤ 16 → Stage n f → Gathering (job (job-lists ps ts es qs)) q fours codes quals k f →
+        Considered (job (job-lists ps ts es qs)) q f fours codes quals k fours2 codes2 quals2 r → Follows n f h → Gathering (job (job-lists ps ts es qs)) q fours2 codes2 quals2 r h
     unfolding job
     gathering-step {f = f} {h = h} few s w d g =
         gathering-next (subst (λ (m : ℕ). Stage m f) points s) (subst (λ (m : ℕ). Follows m f h) points g) (gathering-on few w d)
 
     -- all passed
     pub gathering-end :
-        {q : ℕ} {fours codes quals : List ℕ} {k : ℕ} {f : Four} → job-refusal ps ts es qs ≡ 0 → Staged n f → n ≤ f .d → Gathering (job ps ts es qs) q fours codes quals k f →
+        {q : ℕ} {fours codes quals : List ℕ} {k : ℕ} {f : Four} → job-refusal (job-lists ps ts es qs) ≡ 0 → Staged n f → n ≤ f .d → Gathering (job (job-lists ps ts es qs)) q fours codes quals k f →
         Whole ps ts es qs q fours codes quals k
     gathering-end {f = f} h s l w =
         let g = whole (subst (λ (m : ℕ). Staged m f) points s) (omega arith) (w .so-far) in
@@ -159,7 +160,7 @@ module _ (ps : List ℤ) (ts es : List ℕ) (qs : List ℤ) where
         }
       where
         whole :
-            {q : ℕ} {cs : List Four} → Staged (length (points-in ps)) f → length (points-in ps) ≤ f .d → Gathered (job ps ts es qs) q cs f →
-            Gathered (job ps ts es qs) q cs
-            (four-at (length (job ps ts es qs .points)) (length (job ps ts es qs .points) + 1) (length (job ps ts es qs .points) + 2) (length (job ps ts es qs .points) + 3))
+            {q : ℕ} {cs : List Four} → Staged (length (points-in ps)) f → length (points-in ps) ≤ f .d → Gathered (job (job-lists ps ts es qs)) q cs f →
+            Gathered (job (job-lists ps ts es qs)) q cs
+            (four-at (length (job (job-lists ps ts es qs) .points)) (length (job (job-lists ps ts es qs) .points) + 1) (length (job (job-lists ps ts es qs) .points) + 2) (length (job (job-lists ps ts es qs) .points) + 3))
         whole a b c = unfold job in gathered-end a b c

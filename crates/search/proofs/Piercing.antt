@@ -16,6 +16,7 @@ use Rattle.geometry.specs.Vectors.{value}
 use Rattle.geometry.proofs.Machine.{kept}
 use Rattle.geometry.proofs.Value.{value-above, value-positive}
 use Rattle.laws.specs.Laws.{Edge}
+use Rattle.laws.specs.Lists.{job-lists}
 use Rattle.laws.specs.Check.{job, edges-in}
 use Rattle.laws.specs.inner.Listed.{edge-at, edges-from}
 use Rattle.laws.proofs.Basics.Tests.{contradiction}
@@ -137,7 +138,7 @@ module _ (ps : List V3) (a b : ℕ) (f : Four) where
 
 -- ---- one kept edge after the other
 module _ (ps : List V3) (f : Four) where
-  pub pierced-start : (cs : List ℤ) (ts es : List ℕ) (qs : List ℤ) → pierced ps (job cs ts es qs .kept) f ≡ pierced ps (edges-from es 0) f
+  pub pierced-start : (cs : List ℤ) (ts es : List ℕ) (qs : List ℤ) → pierced ps (job (job-lists cs ts es qs) .kept) f ≡ pierced ps (edges-from es 0) f
   unfolding job
   pierced-start cs ts es qs = ap (λ (xs : List Edge). pierced ps xs f) (edges-start es)
 

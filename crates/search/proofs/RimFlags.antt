@@ -11,6 +11,7 @@ use lib.Seq.{getD-drop}
 use lib.IntN.{ℤ}
 use Rattle.geometry.specs.Space.{four, points-in}
 use Rattle.laws.specs.Laws.{Tri, tri, fours-in}
+use Rattle.laws.specs.Lists.{job-lists}
 use Rattle.laws.specs.Check.{job, job-refusal, tris-in, edges-in, edge-bad}
 use Rattle.laws.specs.inner.Listed.{tri-at}
 use Rattle.laws.specs.inner.Members.{Any, here, there}
@@ -52,7 +53,7 @@ tri-number (suc n) ts s (there m) = let r = tri-number n (drop 3 ts) s m in (suc
 -- the flags of the boundary's numbers are the boundary's flags
 pub rim-flags :
     (ps : List ℤ) (ts es : List ℕ) (qs : List ℤ) {rim flags : List ℕ} → Rim ts rim → Named (length ts / 3) rim flags →
-    Bound-flags (job ps ts es qs .triangles) flags
+    Bound-flags (job (job-lists ps ts es qs) .triangles) flags
 unfolding job
 rim-flags ps ts es qs {rim} {flags} r f = record { yes = λ c h. bound c (f .yes c h); no = λ c b. flagged c b (tri-number (length ts / 3) ts (b .face) (b .stands)) }
   where
@@ -121,24 +122,24 @@ ends-present n (suc m) es h (suc k) l =
     let b : getD (drop 2 es) (k * 2 + 1) 0 ≡ getD es (suc k * 2 + 1) 0 = getD-drop 2 es (k * 2 + 1) 0 ∙ ap (λ (i : ℕ). getD es i 0) (omega arith) in
     (subst (λ (x : ℕ). x < n) a (w .0), subst (λ (x : ℕ). x < n) b (w .1))
 
-module _ (ps : List ℤ) (ts es : List ℕ) (qs : List ℤ) (ok : job-refusal ps ts es qs ≡ 0) where
+module _ (ps : List ℤ) (ts es : List ℕ) (qs : List ℤ) (ok : job-refusal (job-lists ps ts es qs) ≡ 0) where
   pub accepted-points-few : length (points-in ps) ≤ 16
   unfolding job
-  accepted-points-few = points-few ps (accepted ps ts es qs ok .shape) .few
+  accepted-points-few = points-few ps (accepted (job-lists ps ts es qs) ok .shape) .few
 
   pub accepted-triangles-few : length ts / 3 ≤ 560
-  accepted-triangles-few = triangles-few ts (accepted ps ts es qs ok .tri-shape)
+  accepted-triangles-few = triangles-few ts (accepted (job-lists ps ts es qs) ok .tri-shape)
 
   pub accepted-triangles-below-16 : All-below 16 (length ts / 3 * 3) ts
   unfolding job tri
   accepted-triangles-below-16 =
-      let w = all-within (length (points-in ps)) ts accepted-points-few (accepted ps ts es qs ok .tris-good) in
+      let w = all-within (length (points-in ps)) ts accepted-points-few (accepted (job-lists ps ts es qs) ok .tris-good) in
       record { long = omega arith; each = by-three 16 (length ts / 3) ts (λ k l. let t = w k l in (t .a, (t .b, t .c))) }
 
   pub accepted-kept-present : All-below (length (points-in ps)) (length es / 2 * 2) es
   unfolding job
   accepted-kept-present =
-      record { long = omega arith; each = by-two (length (points-in ps)) (length es / 2) es (ends-present (length (points-in ps)) (length es / 2) es (accepted ps ts es qs ok .kept-good)) }
+      record { long = omega arith; each = by-two (length (points-in ps)) (length es / 2) es (ends-present (length (points-in ps)) (length es / 2) es (accepted (job-lists ps ts es qs) ok .kept-good)) }
 
   pub accepted-kept-below-16 : All-below 16 (length es / 2 * 2) es
   accepted-kept-below-16 = record { long = omega arith; each = λ i l. let b = accepted-kept-present .each i l in let f = accepted-points-few in omega arith }

@@ -6,6 +6,7 @@ use native.Mathlib.Omega.{arith}
 use lib.ListN.{length}
 use lib.IntN.{ℤ}
 use Rattle.laws.specs.Laws.{fours-in}
+use Rattle.laws.specs.Lists.{job-lists}
 use Rattle.laws.specs.Check.{job}
 use Rattle.laws.specs.inner.Listed.{tri-at}
 use Rattle.laws.proofs.Basics.Lists.{Each, each-at-member}
@@ -34,8 +35,8 @@ module _ {ps : List ℤ} {ts es : List ℕ} {qs : List ℤ} {fours codes bound :
   pub context-rim-below : {rim : List ℕ} → Rim ts rim → All-below 4096 (length ts / 3) rim
   unfolding job
   context-rim-below r =
-      let p : Each Proper (job ps ts es qs .triangles) =
-      boundary-proper (length (job ps ts es qs .points)) (job ps ts es qs .triangles) (accepted-points-few ps ts es qs (x .accepted)) (accepted ps ts es qs (x .accepted) .tris-good) in
+      let p : Each Proper (job (job-lists ps ts es qs) .triangles) =
+      boundary-proper (length (job (job-lists ps ts es qs) .points)) (job (job-lists ps ts es qs) .triangles) (accepted-points-few ps ts es qs (x .accepted)) (accepted (job-lists ps ts es qs) (x .accepted) .tris-good) in
       record {
         long = r .long;
         each = λ i h. subst (λ (c : ℕ). c < 4096) (sym (r .each i h)) (face-code-below (tri-at ts i) (each-at-member p (tri-stands (length ts / 3) ts i h)));
@@ -44,10 +45,10 @@ module _ {ps : List ℤ} {ts es : List ℕ} {qs : List ℤ} {fours codes bound :
 -- ---- its answers
 module _
     {ps : List ℤ} {ts es : List ℕ} {qs : List ℤ} {fours codes bound : List ℕ} {m : ℕ} (x : Context ps ts es qs fours codes bound m) {ms ns : List ℕ}
-    (d : Reduced (job ps ts es qs) (fours-in m fours) ms ns)
+    (d : Reduced (job (job-lists ps ts es qs)) (fours-in m fours) ms ns)
   where
     -- a point or a kept edge that no set and no alive candidate has
-    pub settles-unlinked : {flags : List ℕ} → Links-are m fours ns 1 2 flags → Unlinked (length ps / 3) es flags → Settles (job ps ts es qs) (fours-in m fours) ms 0 0 ns
+    pub settles-unlinked : {flags : List ℕ} → Links-are m fours ns 1 2 flags → Unlinked (length ps / 3) es flags → Settles (job (job-lists ps ts es qs)) (fours-in m fours) ms 0 0 ns
     settles-unlinked l u =
         record {
           reduced = d;
@@ -61,10 +62,10 @@ module _
         {own lv rim flags : List ℕ} {k₁ f₁ k f : ℕ} (o : Owner-flags m codes ms 2 own) (a : Goes-on own bound lv (On-rim rim (length ts / 3)) 1 0 k₁ f₁)
         (b : Goes-on own bound lv (Behind-set codes ns m) k₁ f₁ k f) (y : Rim ts rim) (e : k ≡ 1) (l : Links-are m fours ns 2 2 flags)
       where
-        pub settles-linked : Ready (job ps ts es qs) (fours-in m fours) ms → All-linked (length ps / 3) es flags → Settles (job ps ts es qs) (fours-in m fours) ms 1 0 ns
+        pub settles-linked : Ready (job (job-lists ps ts es qs)) (fours-in m fours) ms → All-linked (length ps / 3) es flags → Settles (job (job-lists ps ts es qs)) (fours-in m fours) ms 1 0 ns
         settles-linked r u =
             settles-covered x r d o (nothing-open x d o a b y e) (linked-covered ps ts es qs m fours ns (context-points x) (context-kept-below x) l refl refl u)
 
-        pub settles-loose : Unlinked (length ps / 3) es flags → Settles (job ps ts es qs) (fours-in m fours) ms 0 0 ns
+        pub settles-loose : Unlinked (length ps / 3) es flags → Settles (job (job-lists ps ts es qs)) (fours-in m fours) ms 0 0 ns
         settles-loose u =
             settles-uncovered x d o (nothing-open x d o a b y e) (unlinked-uncovered ps ts es qs m fours ns (context-points x) (context-kept-below x) l refl u)

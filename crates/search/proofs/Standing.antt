@@ -14,6 +14,7 @@ use Rattle.geometry.specs.Space.{V3, origin, point, points-in, D, above, zero-z
 use Rattle.geometry.specs.declared.tetrahedron.Four.{Four}
 use Rattle.geometry.specs.Range.{Present}
 use Rattle.laws.specs.Laws.{Job, tri, rising, entry, quality, none-inside, faces}
+use Rattle.laws.specs.Lists.{job-lists}
 use Rattle.laws.specs.Check.{job, job-refusal}
 use Rattle.laws.proofs.Basics.Tests.{and-of}
 use Rattle.laws.proofs.Basics.Lists.{Each}
@@ -77,13 +78,13 @@ by-third a b false r p e g h k = rw (e, g) refl
 
 -- ---- a four of an accepted job, and the boundary as flags
 pub record Ground (ps : List ℤ) (ts es : List ℕ) (qs : List ℤ) (bnd : List ℕ) (f : Four) : Type 0 where
-  pub ok : job-refusal ps ts es qs ≡ 0
-  pub flags : Bound-flags (job ps ts es qs .triangles) bnd
+  pub ok : job-refusal (job-lists ps ts es qs) ≡ 0
+  pub flags : Bound-flags (job (job-lists ps ts es qs) .triangles) bnd
   pub stage : Stage (length (points-in ps)) f
 
 pub ground :
-    (ps : List ℤ) (ts es : List ℕ) (qs : List ℤ) (bnd : List ℕ) (f : Four) {n : ℕ} → job-refusal ps ts es qs ≡ 0 →
-    Bound-flags (job ps ts es qs .triangles) bnd → n ≡ length (points-in ps) → Stage n f → Ground ps ts es qs bnd f
+    (ps : List ℤ) (ts es : List ℕ) (qs : List ℤ) (bnd : List ℕ) (f : Four) {n : ℕ} → job-refusal (job-lists ps ts es qs) ≡ 0 →
+    Bound-flags (job (job-lists ps ts es qs) .triangles) bnd → n ≡ length (points-in ps) → Stage n f → Ground ps ts es qs bnd f
 ground ps ts es qs bnd f ok flags e s = record { ok = ok; flags = flags; stage = subst (λ (k : ℕ). Stage k f) e s }
 
 module _ {ps : List ℤ} {ts es : List ℕ} {qs : List ℤ} {bnd : List ℕ} {f : Four} (w : Ground ps ts es qs bnd f) where
@@ -91,7 +92,7 @@ module _ {ps : List ℤ} {ts es : List ℕ} {qs : List ℤ} {bnd : List ℕ} {f 
   P = points-in ps
 
   abbrev J : Job
-  J = job ps ts es qs
+  J = job (job-lists ps ts es qs)
 
   good : Well-formed (length P) f
   unfolding rising
@@ -103,7 +104,7 @@ module _ {ps : List ℤ} {ts es : List ℕ} {qs : List ℤ} {bnd : List ℕ} {f 
   present =
       let s = w .stage in
       record {
-        near = accepted ps ts es qs (w .ok) .near;
+        near = accepted (job-lists ps ts es qs) (w .ok) .near;
         a = omega (arith, s .ab, s .bc, s .cd, s .below);
         b = omega (arith, s .bc, s .cd, s .below);
         c = omega (arith, s .cd, s .below);
@@ -170,5 +171,5 @@ module _ {ps : List ℤ} {ts es : List ℕ} {qs : List ℤ} {bnd : List ℕ} {f 
   backing-by-flags {g} t a b c d p q r u =
       let few = accepted-points-few ps ts es qs (w .ok) in
       let proper : Each Proper (faces g) = subst (λ (x : Four). Each Proper (faces x)) (sym t) (faces-proper (length P) P f few good) in
-      let rim : Each Proper (J .triangles) = boundary-proper (length P) (J .triangles) few (accepted ps ts es qs (w .ok) .tris-good) in
+      let rim : Each Proper (J .triangles) = boundary-proper (length P) (J .triangles) few (accepted (job-lists ps ts es qs) (w .ok) .tris-good) in
       ap (λ (x : Four). reverses (faces x) (J .triangles)) (sym t) ∙ reverses-by-flags rim (w .flags) g proper a b c d p q r u

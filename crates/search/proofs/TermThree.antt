@@ -1,82 +1,81 @@
--- Term 3 in plain words: what the search says is the best filling there is, or 15 where there is none. Assumes nothing.
+-- Term 3 in plain words follows from what the search says: a job with a lawful filling has a best one, and every job has one or none. Assumes nothing.
 use mathlib.Core.Path.{_≡_, _∙_}
 use mathlib.Core.Bool.{true, false}
 use mathlib.Core.Logic.{_⊎_, inl, inr}
 use mathlib.Core.List.{List}
+use mathlib.Core.Option.{Option, none, some}
 use Prim.Native.Nat.{ℕ, _≤_, _<_}
 use native.Mathlib.Decide.{ℕ-discrete, decLt}
 use native.Mathlib.Omega.{arith}
 use lib.ListN.{length}
-use lib.IntN.{ℤ}
 use Rattle.geometry.specs.declared.tetrahedron.Four.{Four}
-use Rattle.laws.specs.Laws.{lawful, worst, list-before, bytes}
+use Rattle.laws.specs.Laws.{Job, Best, lawful}
+use Rattle.laws.specs.Choice.{Choice}
 use Rattle.laws.specs.Check.{job, job-refusal}
-use Rattle.laws.specs.Promise.{Best-there}
-use Rattle.laws.proofs.Basics.Tests.{true-or-false}
-use Rattle.laws.proofs.Choice.Promises.{best-there}
-use Rattle.search.specs.Entry.{in-front, says, Searched, Search-says}
+use Rattle.laws.proofs.Choice.Best.{best-exists}
+use Rattle.laws.proofs.Choice.Deciding.{choice}
+use Rattle.search.specs.Entry.{says, Searched}
+use Rattle.search.specs.TermThree.{Filled, Found-none, Third-term, Term-three, Refusal-unchanged}
 use Rattle.search.specs.declared.search.Found.{Found}
 use Rattle.search.proofs.Answers.{refused-of, searched-of, short-of}
 
--- a filling found: lawful, its bytes in front of the buffer, 0 and its count and worst quality said, and no other lawful one better, nor as good and earlier
-pub record Filled (ps : List ℤ) (ts es : List ℕ) (qs : List ℤ) (r : Found) (a b : List ℕ) : Type 0 where
-  pub filling : List Four
-  pub keeps : lawful (job ps ts es qs) filling ≡ true
-  pub written : b ≡ in-front (bytes filling) a
-  pub number : r .number ≡ 0
-  pub count : r .count ≡ length filling
-  pub worth : r .worst ≡ worst (job ps ts es qs) filling
-  pub not-better : (gs : List Four) → lawful (job ps ts es qs) gs ≡ true → worst (job ps ts es qs) gs ≤ r .worst
-  pub later : (gs : List Four) → lawful (job ps ts es qs) gs ≡ true → worst (job ps ts es qs) gs ≡ r .worst → (gs ≡ filling → ⊥) → list-before filling gs ≡ true
+module _ {j : Job} {r : Found} {a b : List ℕ} (s : Searched j r a b) where
+  best-filled : (fs : List Four) → Best j fs → Filled j r a b
+  unfolding says
+  best-filled fs h =
+      let w = s .found fs h in
+      let e = w .0 .2 in
+      record {
+        filling = fs;
+        keeps = h .keeps;
+        written = w .1;
+        number = w .0 .0;
+        count = w .0 .1;
+        worth = e;
+        not-better = λ g q. let u = h .least g q .0 in omega arith;
+        later = λ g q d n. h .least g q .1 (d ∙ e) n;
+      }
 
--- a job that meets none of 2 to 14
-pub record Term-three (ps : List ℤ) (ts es : List ℕ) (qs : List ℤ) (r : Found) (a b : List ℕ) : Type 0 where
-  pub filled : (gs : List Four) → lawful (job ps ts es qs) gs ≡ true → Filled ps ts es qs r a b
-  pub none-said : ((gs : List Four) → lawful (job ps ts es qs) gs ≡ false) → (r .number ≡ 15) × ((r .count ≡ 0) × ((r .worst ≡ 0) × (b ≡ a)))
-  pub none-there : r .number ≡ 15 → (gs : List Four) → lawful (job ps ts es qs) gs ≡ false
+  none-found : ((gs : List Four) → lawful j gs ≡ false) → Found-none r a b
+  unfolding says
+  none-found n = let w = s .none-there n in record { number = w .0 .0; count = w .0 .1; worth = w .0 .2; unchanged = w .1 }
 
-pub term-three :
-    (ps : List ℤ) (ts es : List ℕ) (qs : List ℤ) (r : Found) (a b : List ℕ) → job-refusal ps ts es qs ≡ 0 → 7280 ≤ length a → Search-says ps ts es qs r a b →
-    Term-three ps ts es qs r a b
-unfolding says Best-there
-term-three ps ts es qs r a b h l s = record { filled = fill; none-said = none; none-there = λ e gs. no gs e (true-or-false (lawful (job ps ts es qs) gs)) }
+  third-term : Third-term j r a b
+  third-term =
+      record {
+        filled = λ gs k. let f = best-exists j gs k in best-filled (f .0) (f .1);
+        none-said = none-found;
+        found = λ e. said-found e (choice j .0) (choice j .1);
+        none-there = λ e. said-none e (choice j .0) (choice j .1);
+      }
+    where
+      said-found : r .number ≡ 0 → (c : Option (List Four)) → Choice j c → Filled j r a b
+      unfolding Choice
+      said-found e none n = let z = none-found n .number in absurd (omega arith)
+      said-found e (some fs) h = best-filled fs h
+
+      said-none : r .number ≡ 15 → (c : Option (List Four)) → Choice j c → (gs : List Four) → lawful j gs ≡ false
+      unfolding Choice
+      said-none e none n = n
+      said-none e (some fs) h = let z = best-filled fs h .number in absurd (omega arith)
+
+pub term-three : Term-three
+unfolding Term-three
+term-three l r a b h long s = third-term (searched-of l r a b h long s)
+
+pub refusal-unchanged : Refusal-unchanged
+unfolding Refusal-unchanged
+refusal-unchanged l r a b s n = go (ℕ-discrete (job-refusal l) 0) (decLt (length a) 7280)
   where
-    t : Searched (job ps ts es qs) r a b
-    t = searched-of ps ts es qs r a b h l s
-
-    fill : (gs : List Four) → lawful (job ps ts es qs) gs ≡ true → Filled ps ts es qs r a b
-    fill gs k =
-        let f = best-there ps ts es qs gs h k in
-        let w = t .found (f .0) (f .1) in
-        let e = w .0 .2 in
-        record {
-          filling = f .0;
-          keeps = f .1 .keeps;
-          written = w .1;
-          number = w .0 .0;
-          count = w .0 .1;
-          worth = e;
-          not-better = λ g q. let u = f .1 .least g q .0 in omega arith;
-          later = λ g q d n. f .1 .least g q .1 (d ∙ e) n;
-        }
-
-    none : ((gs : List Four) → lawful (job ps ts es qs) gs ≡ false) → (r .number ≡ 15) × ((r .count ≡ 0) × ((r .worst ≡ 0) × (b ≡ a)))
-    none n = let w = t .none-there n in (w .0 .0, (w .0 .1, (w .0 .2, w .1)))
-
-    no : (gs : List Four) → r .number ≡ 15 → (lawful (job ps ts es qs) gs ≡ true) ⊎ (lawful (job ps ts es qs) gs ≡ false) → lawful (job ps ts es qs) gs ≡ false
-    no gs e (inl k) = let z = fill gs k .number in absurd (omega arith)
-    no gs e (inr k) = k
-
--- whatever number other than 0 is said, no byte is changed
-pub refusal-unchanged :
-    (ps : List ℤ) (ts es : List ℕ) (qs : List ℤ) (r : Found) (a b : List ℕ) → Search-says ps ts es qs r a b → (r .number ≡ 0 → ⊥) → b ≡ a
-refusal-unchanged ps ts es qs r a b s n = go (ℕ-discrete (job-refusal ps ts es qs) 0) (decLt (length a) 7280)
-  where
-    go : Dec (job-refusal ps ts es qs ≡ 0) → Dec (length a < 7280) → b ≡ a
-    go (no h) d = refused-of ps ts es qs r a b h s .1
-    go (yes h) (yes l) = short-of ps ts es qs r a b h l s .1
-    go (yes h) (no l) = let t = term-three ps ts es qs r a b h (omega arith) s in t .none-said (λ gs. none gs t (true-or-false (lawful (job ps ts es qs) gs))) .1 .1 .1
+    go : Dec (job-refusal l ≡ 0) → Dec (length a < 7280) → b ≡ a
+    go (no h) d = refused-of l r a b h s .1
+    go (yes h) (yes k) = short-of l r a b h k s .1
+    go (yes h) (no k) = unfound (choice (job l) .0) (choice (job l) .1)
       where
-        none : (gs : List Four) → Term-three ps ts es qs r a b → (lawful (job ps ts es qs) gs ≡ true) ⊎ (lawful (job ps ts es qs) gs ≡ false) → lawful (job ps ts es qs) gs ≡ false
-        none gs t (inl k) = absurd (n (t .filled gs k .number))
-        none gs t (inr k) = k
+        t : Searched (job l) r a b
+        t = searched-of l r a b h (omega arith) s
+
+        unfound : (c : Option (List Four)) → Choice (job l) c → b ≡ a
+        unfolding Choice
+        unfound none m = none-found t m .unchanged
+        unfound (some fs) m = absurd (n (best-filled t fs m .number))

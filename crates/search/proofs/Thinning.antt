@@ -9,6 +9,7 @@ use lib.Seq.{getD-set-same}
 use lib.IntN.{ℤ}
 use Rattle.geometry.specs.declared.tetrahedron.Four.{Four}
 use Rattle.laws.specs.Laws.{fours-in}
+use Rattle.laws.specs.Lists.{job-lists}
 use Rattle.laws.specs.Check.{job}
 use Rattle.laws.specs.inner.Members.{In}
 use Rattle.search.specs.Marks.{nth, marked, Fills, Reduced}
@@ -39,7 +40,7 @@ module _ {codes bound own live : List ℕ} {m : ℕ} {ms ns : List ℕ} (t : Thi
 module _ {ps : List ℤ} {ts es : List ℕ} {qs : List ℤ} {fours codes bound : List ℕ} {m : ℕ} (x : Context ps ts es qs fours codes bound m) where
   -- the set ones stay, so the flags of what they own stay right
   set-flags-stay :
-      {ms ns own : List ℕ} → Reduced (job ps ts es qs) (fours-in m fours) ms ns → Owner-flags m codes ms 2 own → Owner-flags m codes ns 2 own
+      {ms ns own : List ℕ} → Reduced (job (job-lists ps ts es qs)) (fours-in m fours) ms ns → Owner-flags m codes ms 2 own → Owner-flags m codes ns 2 own
   set-flags-stay d o =
       record {
         yes = λ c h. let w = o .yes c h in record { number = w .number; below = w .below; mark = d .stays (w .number) (rw (context-count x) (w .below)) (w .mark); owns = w .owns };
@@ -49,9 +50,9 @@ module _ {ps : List ℤ} {ts es : List ℕ} {qs : List ℤ} {fours codes bound :
   -- no filling holds an alive candidate that is stuck
   stuck-is-in-none :
       {ms own lv : List ℕ} {k : ℕ} → Owner-flags m codes ms 2 own → Owner-flags m codes ms 1 lv → k < m → getD ms k 0 ≡ 1 → Stuck codes bound own lv k →
-      (F : List Four) → Fills (job ps ts es qs) (fours-in m fours) ms F → In (nth (fours-in m fours) k) F → ⊥
+      (F : List Four) → Fills (job (job-lists ps ts es qs)) (fours-in m fours) ms F → In (nth (fours-in m fours) k) F → ⊥
   stuck-is-in-none {ms} {own} {lv} {k} o v l a s F e i =
-      go ((reduced-thin x o v l a (s .owns) (s .shut) (s .lone) (reduced-refl (job ps ts es qs) (fours-in m fours) ms)) .keeps F e .within (nth (fours-in m fours) k) i)
+      go ((reduced-thin x o v l a (s .owns) (s .shut) (s .lone) (reduced-refl (job (job-lists ps ts es qs)) (fours-in m fours) ms)) .keeps F e .within (nth (fours-in m fours) k) i)
     where
       dropped : getD (set ms k 0) k 0 ≡ 0
       dropped = getD-set-same ms k 0 0 (mark-within 0 ms k a)
@@ -61,7 +62,7 @@ module _ {ps : List ℤ} {ts es : List ℕ} {qs : List ℤ} {fours codes bound :
       go (inr h) = let b = mark-of (context-sorted x) 1 (set ms k 0) k (rw (context-count x) l) h in let z = dropped in omega arith
 
   pub thins-reduced :
-      {ms ns own lv : List ℕ} → Owner-flags m codes ms 2 own → Owner-flags m codes ms 1 lv → Thins codes bound own lv m ms ns → Reduced (job ps ts es qs) (fours-in m fours) ms ns
+      {ms ns own lv : List ℕ} → Owner-flags m codes ms 2 own → Owner-flags m codes ms 1 lv → Thins codes bound own lv m ms ns → Reduced (job (job-lists ps ts es qs)) (fours-in m fours) ms ns
   thins-reduced {ms} {ns} {own} {lv} o v t = record { stays = stays; only = λ k h. was 2 k (omega arith) h; fewer = λ k h. was 1 k (omega arith) h; keeps = keep }
     where
       stays : (k : ℕ) → k < length (fours-in m fours) → getD ms k 0 ≡ 2 → getD ns k 0 ≡ 2
@@ -70,7 +71,7 @@ module _ {ps : List ℤ} {ts es : List ℕ} {qs : List ℤ} {fours codes bound :
       was : (w k : ℕ) → 0 < w → k < length (fours-in m fours) → getD ns k 0 ≡ w → getD ms k 0 ≡ w
       was w k p h = thins-was t w k p (rw (context-count x) at h)
 
-      keep : (F : List Four) → Fills (job ps ts es qs) (fours-in m fours) ms F → Fills (job ps ts es qs) (fours-in m fours) ns F
+      keep : (F : List Four) → Fills (job (job-lists ps ts es qs)) (fours-in m fours) ms F → Fills (job (job-lists ps ts es qs)) (fours-in m fours) ns F
       keep F e = record { keeps = e .keeps; holds = λ f i. e .holds f (marked-into 2 (fours-in m fours) ns ms (λ k h. was 2 k (omega arith) h) f i); within = λ f i. go f i (e .within f i) }
         where
           alive : (f : Four) (k : ℕ) → k < length (fours-in m fours) → nth (fours-in m fours) k ≡ f → getD ms k 0 ≡ 1 → In f F →
@@ -83,6 +84,6 @@ module _ {ps : List ℤ} {ts es : List ℕ} {qs : List ℤ} {fours codes bound :
           go f i (inr h) = let r = marked-number 1 (fours-in m fours) ms h in inr (alive f (r .number) (r .below) (r .is) (r .mark) i (t .each (r .number) (rw (context-count x) at (r .below))))
 
   -- all the rounds
-  pub thinned-reduced : {ms ns own : List ℕ} → Owner-flags m codes ms 2 own → Thinned-to codes bound own m ms ns → Reduced (job ps ts es qs) (fours-in m fours) ms ns
-  thinned-reduced {ms} o same = reduced-refl (job ps ts es qs) (fours-in m fours) ms
+  pub thinned-reduced : {ms ns own : List ℕ} → Owner-flags m codes ms 2 own → Thinned-to codes bound own m ms ns → Reduced (job (job-lists ps ts es qs)) (fours-in m fours) ms ns
+  thinned-reduced {ms} o same = reduced-refl (job (job-lists ps ts es qs)) (fours-in m fours) ms
   thinned-reduced o (round lv r v t) = let d = thinned-reduced o r in reduced-trans d (thins-reduced (set-flags-stay d o) v t)

@@ -13,6 +13,7 @@ use lib.ListN.{length, getD}
 use lib.IntN.{ℤ, pos, negsuc}
 use Rattle.geometry.specs.declared.tetrahedron.Four.{Four}
 use Rattle.laws.specs.Laws.{Job, Tri, entry, quality, place, fours-in, lawful, worst}
+use Rattle.laws.specs.Lists.{job-lists}
 use Rattle.laws.specs.Check.{job, job-refusal, tris-in, entry-bad, any-entry-bad}
 use Rattle.laws.specs.inner.Members.{here}
 use Rattle.laws.proofs.Basics.Tests.{and-true, or-false}
@@ -40,48 +41,48 @@ getD-good [] i h = omega arith
 getD-good (v ∷ vs) zero h = quality-good v (or-false (entry-bad v) (any-entry-bad vs) h .0)
 getD-good (v ∷ vs) (suc i) h = getD-good vs i (or-false (entry-bad v) (any-entry-bad vs) h .1)
 
-module _ (ps : List ℤ) (ts es : List ℕ) (qs : List ℤ) (a : job-refusal ps ts es qs ≡ 0) where
-  pub quality-small : (f : Four) → quality (entry (job ps ts es qs) f) ≤ 1000000
+module _ (ps : List ℤ) (ts es : List ℕ) (qs : List ℤ) (a : job-refusal (job-lists ps ts es qs) ≡ 0) where
+  pub quality-small : (f : Four) → quality (entry (job (job-lists ps ts es qs)) f) ≤ 1000000
   unfolding entry job
-  quality-small f = getD-good qs (place (length (job ps ts es qs .points)) f) (accepted ps ts es qs a .entries)
+  quality-small f = getD-good qs (place (length (job (job-lists ps ts es qs) .points)) f) (accepted (job-lists ps ts es qs) a .entries)
 
   pub triangles-many : 4 ≤ length ts / 3
   triangles-many =
       let n = length ts / 3 in
-      leb-true 4 n (and-true (leb 4 n) (leb n 560) (and-true (eqb (length ts % 3) 0) (leb 4 n && leb n 560) (accepted ps ts es qs a .tri-shape) .1) .0)
+      leb-true 4 n (and-true (leb 4 n) (leb n 560) (and-true (eqb (length ts % 3) 0) (leb 4 n && leb n 560) (accepted (job-lists ps ts es qs) a .tri-shape) .1) .0)
 
 some-in : (n : ℕ) (bs : List ℕ) → 4 ≤ n → (t : Tri) × Has t (tris-in n bs)
 unfolding tris-in
 some-in zero bs h = absurd (omega arith)
 some-in (suc n) bs h = (_, here (same-refl _))
 
-pub boundary-some : (ps : List ℤ) (ts es : List ℕ) (qs : List ℤ) → job-refusal ps ts es qs ≡ 0 → (t : Tri) × Has t (job ps ts es qs .triangles)
+pub boundary-some : (ps : List ℤ) (ts es : List ℕ) (qs : List ℤ) → job-refusal (job-lists ps ts es qs) ≡ 0 → (t : Tri) × Has t (job (job-lists ps ts es qs) .triangles)
 unfolding job
 boundary-some ps ts es qs a = some-in (length ts / 3) ts (triangles-many ps ts es qs a)
 
 -- ---- what is filed is a context, and marks by quality are the start
 pub filed-context :
-    {ps : List ℤ} {ts es : List ℕ} {qs : List ℤ} {fours codes quals bound : List ℕ} {m : ℕ} → job-refusal ps ts es qs ≡ 0 → Filed ps ts es qs fours codes quals m →
-    Bound-flags (job ps ts es qs .triangles) bound → length bound ≡ 4096 → Context ps ts es qs fours codes bound m
+    {ps : List ℤ} {ts es : List ℕ} {qs : List ℤ} {fours codes quals bound : List ℕ} {m : ℕ} → job-refusal (job-lists ps ts es qs) ≡ 0 → Filed ps ts es qs fours codes quals m →
+    Bound-flags (job (job-lists ps ts es qs) .triangles) bound → length bound ≡ 4096 → Context ps ts es qs fours codes bound m
 filed-context a f b l = record { accepted = a; few = f .few; long = f .long; pool = f .pool; faces = f .faces; bounds = b; bound-long = l }
 
 pub quals-long : {ps : List ℤ} {ts es : List ℕ} {qs : List ℤ} {fours codes quals : List ℕ} {m : ℕ} → Filed ps ts es qs fours codes quals m → m ≤ length quals
 quals-long {fours = fours} {quals = quals} {m = m} f = subst (λ (n : ℕ). n ≤ length quals) (fours-in-length m fours) (f .qualities .long)
 
 module _ {ps : List ℤ} {ts es : List ℕ} {qs : List ℤ} {fours codes quals : List ℕ} {m : ℕ} (f : Filed ps ts es qs fours codes quals m) where
-  pub alive-started : {q : ℕ} {ms : List ℕ} → Alive-from quals m q ms → Started (job ps ts es qs) (fours-in m fours) q ms
+  pub alive-started : {q : ℕ} {ms : List ℕ} → Alive-from quals m q ms → Started (job (job-lists ps ts es qs)) (fours-in m fours) q ms
   alive-started {q} {ms} s =
       record {
         each = λ k l.
             s .each k (subst (λ (n : ℕ). k < n) (fours-in-length m fours) l) ∙ ap (λ (x : ℕ). cond (leb q x) 1 0) (f .qualities .each k l);
       }
 
-  pub alive-ready : {q : ℕ} {ms : List ℕ} → Alive-from quals m q ms → Ready (job ps ts es qs) (fours-in m fours) ms
+  pub alive-ready : {q : ℕ} {ms : List ℕ} → Alive-from quals m q ms → Ready (job (job-lists ps ts es qs)) (fours-in m fours) ms
   alive-ready s = record { fit = started-fit (f .pool) (alive-started s) }
 
   -- the least quality of the set ones is their worst
-  pub least-worst : {ms : List ℕ} {r : ℕ} → Least-set quals ms m r → worst (job ps ts es qs) (marked 2 (fours-in m fours) ms) ≡ r
-  least-worst {ms} {r} s = worst-by-number (job ps ts es qs) (fours-in m fours) ms r (s .high) each (some (s .some))
+  pub least-worst : {ms : List ℕ} {r : ℕ} → Least-set quals ms m r → worst (job (job-lists ps ts es qs)) (marked 2 (fours-in m fours) ms) ≡ r
+  least-worst {ms} {r} s = worst-by-number (job (job-lists ps ts es qs)) (fours-in m fours) ms r (s .high) each (some (s .some))
     where
       down : {k : ℕ} → k < length (fours-in m fours) → k < m
       down {k} l = subst (λ (n : ℕ). k < n) (fours-in-length m fours) l
@@ -89,12 +90,12 @@ module _ {ps : List ℤ} {ts es : List ℕ} {qs : List ℤ} {fours codes quals :
       up : {k : ℕ} → k < m → k < length (fours-in m fours)
       up {k} l = subst (λ (n : ℕ). k < n) (sym (fours-in-length m fours)) l
 
-      each : (k : ℕ) → k < length (fours-in m fours) → getD ms k 0 ≡ 2 → r ≤ quality (entry (job ps ts es qs) (nth (fours-in m fours) k))
+      each : (k : ℕ) → k < length (fours-in m fours) → getD ms k 0 ≡ 2 → r ≤ quality (entry (job (job-lists ps ts es qs)) (nth (fours-in m fours) k))
       each k l e = subst (λ (x : ℕ). r ≤ x) (f .qualities .each k l) (s .each k (down l) e)
 
       some :
           (r ≡ 1000000) ⊎ ((k : ℕ) × ((k < m) × ((getD ms k 0 ≡ 2) × (getD quals k 0 ≡ r)))) →
-          (r ≡ 1000000) ⊎ ((k : ℕ) × ((k < length (fours-in m fours)) × ((getD ms k 0 ≡ 2) × (quality (entry (job ps ts es qs) (nth (fours-in m fours) k)) ≡ r))))
+          (r ≡ 1000000) ⊎ ((k : ℕ) × ((k < length (fours-in m fours)) × ((getD ms k 0 ≡ 2) × (quality (entry (job (job-lists ps ts es qs)) (nth (fours-in m fours) k)) ≡ r))))
       some (inl e) = inl e
       some (inr w) = inr (w .0, (up (w .1 .0), (w .1 .1 .0, sym (f .qualities .each (w .0) (up (w .1 .0))) ∙ w .1 .1 .1)))
 

@@ -8,6 +8,7 @@ use lib.ListN.{length, drop}
 use lib.IntN.{ℤ}
 use Rattle.geometry.specs.declared.tetrahedron.Four.{Four}
 use Rattle.laws.specs.Laws.{Job, lawful, worst, Best, bytes}
+use Rattle.laws.specs.Lists.{Lists}
 use Rattle.laws.specs.Check.{job, job-refusal}
 use Rattle.search.specs.declared.search.Found.{Found}
 
@@ -38,6 +39,6 @@ unfoldable pub Search-as : (refusal : ℕ) → Job → Found → (a a-now : List
 Search-as zero j r a b = Searched j r a b
 Search-as (suc n) j r a b = says (suc n) 0 0 r × (b ≡ a)
 
-unfoldable pub Search-says : (points : List ℤ) → (triangles kept : List ℕ) → (table : List ℤ) → Found → (a a-now : List ℕ) → Type 0
-Search-says ps ts es qs r a b =
-    Search-as (or-else (job-refusal ps ts es qs) (cond (ltb (length a) 7280) 14 0)) (job ps ts es qs) r a b
+unfoldable pub Search-says : Lists → Found → (a a-now : List ℕ) → Type 0
+Search-says l r a b =
+    Search-as (or-else (job-refusal l) (cond (ltb (length a) 7280) 14 0)) (job l) r a b

@@ -1,4 +1,5 @@
 pub mod Entry
+pub mod TermThree
 pub mod Part
 pub mod Marks
 pub mod Codes

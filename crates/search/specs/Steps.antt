@@ -7,6 +7,7 @@ use lib.ListN.{length, getD}
 use lib.IntN.{ℤ}
 use Rattle.geometry.specs.declared.tetrahedron.Four.{Four}
 use Rattle.laws.specs.Laws.{Job, Tri, all-faces, fours-in}
+use Rattle.laws.specs.Lists.{job-lists}
 use Rattle.laws.specs.Check.{job, job-refusal}
 use Rattle.laws.specs.inner.Members.{In}
 use Rattle.laws.specs.inner.FaceCodes.{face-code, flip-code, Proper}
@@ -16,12 +17,12 @@ use Rattle.search.specs.Codes.{Face-table, Owns, Bound-flags, open-code}
 
 -- a job that is not refused, a pool of its candidates as bytes, the numbers of their faces, and the boundary as flags by face number
 pub record Context (ps : List ℤ) (ts es : List ℕ) (qs : List ℤ) (fours codes bound : List ℕ) (m : ℕ) : Type 0 where
-  pub accepted : job-refusal ps ts es qs ≡ 0
+  pub accepted : job-refusal (job-lists ps ts es qs) ≡ 0
   pub few : m ≤ 1820
   pub long : m * 4 ≤ length fours
-  pub pool : Pool (job ps ts es qs) (fours-in m fours)
-  pub faces : Face-table (job ps ts es qs .points) (fours-in m fours) codes
-  pub bounds : Bound-flags (job ps ts es qs .triangles) bound
+  pub pool : Pool (job (job-lists ps ts es qs)) (fours-in m fours)
+  pub faces : Face-table (job (job-lists ps ts es qs) .points) (fours-in m fours) codes
+  pub bounds : Bound-flags (job (job-lists ps ts es qs) .triangles) bound
   pub bound-long : length bound ≡ 4096
 
 -- marks from which a search may go on

@@ -9,6 +9,7 @@ use lib.ListN.{length, getD, set}
 use lib.IntN.{ℤ}
 use Rattle.geometry.specs.declared.tetrahedron.Four.{Four}
 use Rattle.laws.specs.Laws.{Job, tri, entry, quality, corner-of, fours-in, lawful, worst}
+use Rattle.laws.specs.Lists.{job-lists}
 use Rattle.laws.specs.Check.{job}
 use Rattle.laws.specs.inner.FaceCodes.{face-code, flip-code}
 use Rattle.search.specs.Marks.{nth, marked, Pool, Covers}
@@ -106,14 +107,14 @@ pub record Stage (n : ℕ) (f : Four) : Type 0 where
 pub record Filed (ps : List ℤ) (ts es : List ℕ) (qs : List ℤ) (fours codes quals : List ℕ) (m : ℕ) : Type 0 where
   pub few : m ≤ 1820
   pub long : m * 4 ≤ length fours
-  pub pool : Pool (job ps ts es qs) (fours-in m fours)
-  pub faces : Face-table (job ps ts es qs .points) (fours-in m fours) codes
-  pub qualities : Qualities (job ps ts es qs) (fours-in m fours) quals
+  pub pool : Pool (job (job-lists ps ts es qs)) (fours-in m fours)
+  pub faces : Face-table (job (job-lists ps ts es qs) .points) (fours-in m fours) codes
+  pub qualities : Qualities (job (job-lists ps ts es qs)) (fours-in m fours) quals
 
 -- a pool with every four of every lawful filling whose worst quality is q at least
 pub record Whole (ps : List ℤ) (ts es : List ℕ) (qs : List ℤ) (q : ℕ) (fours codes quals : List ℕ) (m : ℕ) : Type 0 where
   pub filed : Filed ps ts es qs fours codes quals m
-  pub covers : Covers (job ps ts es qs) q (fours-in m fours)
+  pub covers : Covers (job (job-lists ps ts es qs)) q (fours-in m fours)
 
 -- marks at a threshold q, by the qualities in a table
 pub record Alive-from (quals : List ℕ) (m q : ℕ) (ms : List ℕ) : Type 0 where
@@ -127,9 +128,9 @@ pub record Between (quals : List ℕ) (m low high r : ℕ) : Type 0 where
 -- what a threshold's try answers: the pool found, of all fillings of that quality, and the marks of one; or that there is none
 pub record Attempted (ps : List ℤ) (ts es : List ℕ) (qs : List ℤ) (q : ℕ) (found : Bool) (fours codes quals : List ℕ) (m w : ℕ) (ms : List ℕ) : Type 0 where
   pub whole : found ≡ true → Whole ps ts es qs q fours codes quals m
-  pub witness : found ≡ true → (lawful (job ps ts es qs) (marked 2 (fours-in m fours) ms) ≡ true) × (worst (job ps ts es qs) (marked 2 (fours-in m fours) ms) ≡ w)
+  pub witness : found ≡ true → (lawful (job (job-lists ps ts es qs)) (marked 2 (fours-in m fours) ms) ≡ true) × (worst (job (job-lists ps ts es qs)) (marked 2 (fours-in m fours) ms) ≡ w)
   pub enough : found ≡ true → q ≤ w
-  pub none : found ≡ false → (F : List Four) → lawful (job ps ts es qs) F ≡ true → worst (job ps ts es qs) F < q
+  pub none : found ≡ false → (F : List Four) → lawful (job (job-lists ps ts es qs)) F ≡ true → worst (job (job-lists ps ts es qs)) F < q
 
 -- a filling by its marks on a pool, its worst quality w above 0, the pool whole from w down, and no lawful filling of worst quality `top` or above
 pub record Highest (ps : List ℤ) (ts es : List ℕ) (qs : List ℤ) (fours codes quals : List ℕ) (m w top : ℕ) (ms : List ℕ) : Type 0 where
@@ -137,9 +138,9 @@ pub record Highest (ps : List ℤ) (ts es : List ℕ) (qs : List ℤ) (fours cod
   pub positive : 0 < w
   pub lower : w < top
   pub small : top ≤ 1000001
-  pub keeps : lawful (job ps ts es qs) (marked 2 (fours-in m fours) ms) ≡ true
-  pub worth : worst (job ps ts es qs) (marked 2 (fours-in m fours) ms) ≡ w
-  pub reached : (F : List Four) → lawful (job ps ts es qs) F ≡ true → worst (job ps ts es qs) F < top
+  pub keeps : lawful (job (job-lists ps ts es qs)) (marked 2 (fours-in m fours) ms) ≡ true
+  pub worth : worst (job (job-lists ps ts es qs)) (marked 2 (fours-in m fours) ms) ≡ w
+  pub reached : (F : List Four) → lawful (job (job-lists ps ts es qs)) F ≡ true → worst (job (job-lists ps ts es qs)) F < top
 
 -- the least quality of the set ones, 1,000,000 where there is none below it
 pub record Least-set (quals ms : List ℕ) (m r : ℕ) : Type 0 where

@@ -5,6 +5,7 @@ ghost use Prim.Native.Nat.{suc, _+_, _*_, _/_, _<_, _≤_};
 ghost use lib.ListN.{length, getD};
 ghost use Rattle.geometry.specs.Range.{Present};
 ghost use Rattle.laws.specs.Laws.{choose, fours-in, worst, lawful};
+ghost use Rattle.laws.specs.Lists.{job-lists};
 ghost use Rattle.laws.specs.Check.{job, job-refusal};
 ghost use Rattle.search.specs.Codes.{Bound-flags};
 ghost use Rattle.search.specs.Marks.{marked};
@@ -222,7 +223,7 @@ pub fn rough(
     codes: &mut [u16],
     quals: &mut [u32],
 ) -> usize
-    requires { ⌜ (job-refusal (now points) (now triangles) (now kept) (now table) ≡ 0) × (length (now bound) ≡ 4096) × (length (now codes) ≡ 7280) × (length (now quals) ≡ 1820) ⌝ }
+    requires { ⌜ (job-refusal (job-lists (now points) (now triangles) (now kept) (now table)) ≡ 0) × (length (now bound) ≡ 4096) × (length (now codes) ≡ 7280) × (length (now quals) ≡ 1820) ⌝ }
     ensures { λ r. ⌜ (r ≤ 1820) × All-below 4096 (r * 4) (now (codes .exit)) × (length (now (codes .exit)) ≡ 7280) × (length (now (quals .exit)) ≡ 1820) ⌝ }
 {
     let n = points.len() / 3;
@@ -258,7 +259,7 @@ pub fn try_threshold(
     codes2: &mut [u16],
     quals2: &mut [u32],
 ) -> Attempt
-    requires { ⌜ (job-refusal (now points) (now triangles) (now kept) (now table) ≡ 0) × Rim (now triangles) (now rim) × Bound-flags (job (now points) (now triangles) (now kept) (now table) .triangles) (now bound) × (length (now bound) ≡ 4096) × (0 < q) × (q ≤ 1000000) × Whole (now points) (now triangles) (now kept) (now table) q (now fours) (now codes) (now quals) m × (length (now fours2) ≡ 7280) × (length (now codes2) ≡ 7280) × (length (now quals2) ≡ 1820) ⌝ }
+    requires { ⌜ (job-refusal (job-lists (now points) (now triangles) (now kept) (now table)) ≡ 0) × Rim (now triangles) (now rim) × Bound-flags (job (job-lists (now points) (now triangles) (now kept) (now table)) .triangles) (now bound) × (length (now bound) ≡ 4096) × (0 < q) × (q ≤ 1000000) × Whole (now points) (now triangles) (now kept) (now table) q (now fours) (now codes) (now quals) m × (length (now fours2) ≡ 7280) × (length (now codes2) ≡ 7280) × (length (now quals2) ≡ 1820) ⌝ }
     ensures { λ r. ⌜ Attempted (now (points .entry)) (now (triangles .entry)) (now (kept .entry)) (now (table .entry)) q (r .found) (now (fours2 .exit)) (now (codes2 .exit)) (now (quals2 .exit)) (r .count) (r .worst) (r .mark) ⌝ }
 {
     let z = settle(
@@ -340,7 +341,7 @@ pub fn climb(
     from: Attempt,
     top: u32,
 ) -> Attempt
-    requires { ⌜ (job-refusal (now points) (now triangles) (now kept) (now table) ≡ 0) × Rim (now triangles) (now rim) × Bound-flags (job (now points) (now triangles) (now kept) (now table) .triangles) (now bound) × (length (now bound) ≡ 4096) × Highest (now points) (now triangles) (now kept) (now table) (now fours) (now codes) (now quals) (from .count) (from .worst) top (from .mark) ⌝ }
+    requires { ⌜ (job-refusal (job-lists (now points) (now triangles) (now kept) (now table)) ≡ 0) × Rim (now triangles) (now rim) × Bound-flags (job (job-lists (now points) (now triangles) (now kept) (now table)) .triangles) (now bound) × (length (now bound) ≡ 4096) × Highest (now points) (now triangles) (now kept) (now table) (now fours) (now codes) (now quals) (from .count) (from .worst) top (from .mark) ⌝ }
     ensures { λ r. ⌜ (r .count ≡ from .count) × Highest (now (points .entry)) (now (triangles .entry)) (now (kept .entry)) (now (table .entry)) (now (fours .entry)) (now (codes .entry)) (now (quals .entry)) (r .count) (r .worst) (suc (r .worst)) (r .mark) ⌝ }
 {
     let m = from.count;

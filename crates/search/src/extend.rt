@@ -4,6 +4,7 @@ ghost use mathlib.Core.Bool.{true, false};
 ghost use Prim.Native.Nat.{ℕ, _+_, _*_, _<_, _≤_};
 ghost use lib.ListN.{length, getD};
 ghost use Rattle.laws.specs.Laws.{fours-in};
+ghost use Rattle.laws.specs.Lists.{job-lists};
 ghost use Rattle.laws.specs.Check.{job};
 ghost use Rattle.search.specs.Part.{compatible};
 ghost use Rattle.search.specs.Marks.{nth, Placed, Reduced, Extended, Cornered};
@@ -53,7 +54,7 @@ pub fn goes_with(
     b: usize,
 ) -> bool
     requires { ⌜ Context (now points) (now triangles) (now kept) (now table) (now fours) (now codes) (now bound) m × (a < m) × (b < m) × ((a ≡ b) → ⊥) ⌝ }
-    ensures { λ r. ⌜ r ≡ compatible (job (now (points .entry)) (now (triangles .entry)) (now (kept .entry)) (now (table .entry)) .points) (nth (fours-in m (now (fours .entry))) a) (nth (fours-in m (now (fours .entry))) b) ⌝ }
+    ensures { λ r. ⌜ r ≡ compatible (job (job-lists (now (points .entry)) (now (triangles .entry)) (now (kept .entry)) (now (table .entry))) .points) (nth (fours-in m (now (fours .entry))) a) (nth (fours-in m (now (fours .entry))) b) ⌝ }
 {
     if share_face(codes, a, b) {
         return false;
@@ -81,7 +82,7 @@ pub fn place(
     t: usize,
 ) -> Marks
     requires { ⌜ Context (now points) (now triangles) (now kept) (now table) (now fours) (now codes) (now bound) m × (t < m) × (getD (s .mark) t 0 ≡ 1) ⌝ }
-    ensures { λ r. ⌜ Placed (job (now (points .entry)) (now (triangles .entry)) (now (kept .entry)) (now (table .entry))) (fours-in m (now (fours .entry))) t (s .mark) (r .mark) ⌝ }
+    ensures { λ r. ⌜ Placed (job (job-lists (now (points .entry)) (now (triangles .entry)) (now (kept .entry)) (now (table .entry)))) (fours-in m (now (fours .entry))) t (s .mark) (r .mark) ⌝ }
 {
     let mut w = s;
     w.mark[t] = 2;
@@ -109,8 +110,8 @@ pub fn shave(
     m: usize,
     s: Marks,
 ) -> Marks
-    requires { ⌜ Context (now points) (now triangles) (now kept) (now table) (now fours) (now codes) (now bound) m × Rim (now triangles) (now rim) × Ready (job (now points) (now triangles) (now kept) (now table)) (fours-in m (now fours)) (s .mark) ⌝ }
-    ensures { λ r. ⌜ Reduced (job (now (points .entry)) (now (triangles .entry)) (now (kept .entry)) (now (table .entry))) (fours-in m (now (fours .entry))) (s .mark) (r .mark) ⌝ }
+    requires { ⌜ Context (now points) (now triangles) (now kept) (now table) (now fours) (now codes) (now bound) m × Rim (now triangles) (now rim) × Ready (job (job-lists (now points) (now triangles) (now kept) (now table))) (fours-in m (now fours)) (s .mark) ⌝ }
+    ensures { λ r. ⌜ Reduced (job (job-lists (now (points .entry)) (now (triangles .entry)) (now (kept .entry)) (now (table .entry)))) (fours-in m (now (fours .entry))) (s .mark) (r .mark) ⌝ }
 {
     let mut w = s;
     for k in 0..m {
@@ -159,8 +160,8 @@ pub fn face(
     m: usize,
     s: Marks,
 ) -> Extension
-    requires { ⌜ Context (now points) (now triangles) (now kept) (now table) (now fours) (now codes) (now bound) m × Rim (now triangles) (now rim) × Ready (job (now points) (now triangles) (now kept) (now table)) (fours-in m (now fours)) (s .mark) ⌝ }
-    ensures { λ r. ⌜ Extended (job (now (points .entry)) (now (triangles .entry)) (now (kept .entry)) (now (table .entry))) (fours-in m (now (fours .entry))) (s .mark) (r .found) (r .mark) ⌝ }
+    requires { ⌜ Context (now points) (now triangles) (now kept) (now table) (now fours) (now codes) (now bound) m × Rim (now triangles) (now rim) × Ready (job (job-lists (now points) (now triangles) (now kept) (now table))) (fours-in m (now fours)) (s .mark) ⌝ }
+    ensures { λ r. ⌜ Extended (job (job-lists (now (points .entry)) (now (triangles .entry)) (now (kept .entry)) (now (table .entry)))) (fours-in m (now (fours .entry))) (s .mark) (r .found) (r .mark) ⌝ }
 {
     let z = settle(
         points,
@@ -256,8 +257,8 @@ pub fn corner(
     s: Marks,
     t: usize,
 ) -> Extension
-    requires { ⌜ Context (now points) (now triangles) (now kept) (now table) (now fours) (now codes) (now bound) m × Rim (now triangles) (now rim) × Ready (job (now points) (now triangles) (now kept) (now table)) (fours-in m (now fours)) (s .mark) × (t < m) × (getD (s .mark) t 0 ≡ 1) ⌝ }
-    ensures { λ r. ⌜ Cornered (job (now (points .entry)) (now (triangles .entry)) (now (kept .entry)) (now (table .entry))) (fours-in m (now (fours .entry))) (s .mark) t (r .found) (r .mark) ⌝ }
+    requires { ⌜ Context (now points) (now triangles) (now kept) (now table) (now fours) (now codes) (now bound) m × Rim (now triangles) (now rim) × Ready (job (job-lists (now points) (now triangles) (now kept) (now table))) (fours-in m (now fours)) (s .mark) × (t < m) × (getD (s .mark) t 0 ≡ 1) ⌝ }
+    ensures { λ r. ⌜ Cornered (job (job-lists (now (points .entry)) (now (triangles .entry)) (now (kept .entry)) (now (table .entry)))) (fours-in m (now (fours .entry))) (s .mark) t (r .found) (r .mark) ⌝ }
 {
     let z = place(points, triangles, kept, table, fours, codes, bound, m, s, t);
     face(

@@ -3,6 +3,7 @@ ghost use mathlib.Core.Path.{_≡_};
 ghost use Prim.Native.Nat.{suc, _<_, _≤_};
 ghost use lib.ListN.{length};
 ghost use Rattle.laws.specs.Laws.{fours-in, Best};
+ghost use Rattle.laws.specs.Lists.{job-lists};
 ghost use Rattle.laws.specs.Check.{job, job-refusal};
 ghost use Rattle.search.specs.Codes.{Bound-flags};
 ghost use Rattle.search.specs.Marks.{marked};
@@ -26,8 +27,8 @@ pub fn first_list(
     quals: &[u32],
     from: Attempt,
 ) -> Marks
-    requires { ⌜ (job-refusal (now points) (now triangles) (now kept) (now table) ≡ 0) × Rim (now triangles) (now rim) × Bound-flags (job (now points) (now triangles) (now kept) (now table) .triangles) (now bound) × (length (now bound) ≡ 4096) × Highest (now points) (now triangles) (now kept) (now table) (now fours) (now codes) (now quals) (from .count) (from .worst) (suc (from .worst)) (from .mark) ⌝ }
-    ensures { λ r. ⌜ Best (job (now (points .entry)) (now (triangles .entry)) (now (kept .entry)) (now (table .entry))) (marked 2 (fours-in (from .count) (now (fours .entry))) (r .mark)) ⌝ }
+    requires { ⌜ (job-refusal (job-lists (now points) (now triangles) (now kept) (now table)) ≡ 0) × Rim (now triangles) (now rim) × Bound-flags (job (job-lists (now points) (now triangles) (now kept) (now table)) .triangles) (now bound) × (length (now bound) ≡ 4096) × Highest (now points) (now triangles) (now kept) (now table) (now fours) (now codes) (now quals) (from .count) (from .worst) (suc (from .worst)) (from .mark) ⌝ }
+    ensures { λ r. ⌜ Best (job (job-lists (now (points .entry)) (now (triangles .entry)) (now (kept .entry)) (now (table .entry)))) (marked 2 (fours-in (from .count) (now (fours .entry))) (r .mark)) ⌝ }
 {
     let m = from.count;
     let mark = from.mark;

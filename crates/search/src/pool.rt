@@ -10,6 +10,7 @@ ghost use Rattle.geometry.specs.Space.{points-in, point, turned, D};
 ghost use Rattle.geometry.specs.Vectors.{value};
 ghost use Rattle.geometry.specs.Range.{Present, any-far};
 ghost use Rattle.laws.specs.Laws.{tri, fours-in, entry, quality, none-inside};
+ghost use Rattle.laws.specs.Lists.{job-lists};
 ghost use Rattle.laws.specs.Check.{job, job-refusal};
 ghost use Rattle.laws.specs.inner.FaceCodes.{face-code, flip-code};
 ghost use Rattle.search.specs.Codes.{Bound-flags};
@@ -172,7 +173,7 @@ pub fn edge_pierces_four(points: &[i32], a: usize, b: usize, f: Four) -> bool
 // Whether some kept edge does.
 pub fn is_pierced(points: &[i32], triangles: &[u8], kept: &[u8], table: &[i32], f: Four) -> bool
     requires { ⌜ Present (now points) f × All-below (length (points-in (now points))) (length (now kept) / 2 * 2) (now kept) ⌝ }
-    ensures { λ r. ⌜ r ≡ pierced (points-in (now (points .entry))) (job (now (points .entry)) (now (triangles .entry)) (now (kept .entry)) (now (table .entry)) .kept) f ⌝ }
+    ensures { λ r. ⌜ r ≡ pierced (points-in (now (points .entry))) (job (job-lists (now (points .entry)) (now (triangles .entry)) (now (kept .entry)) (now (table .entry))) .kept) f ⌝ }
 {
     for i in 0..kept.len() / 2 {
         let a = kept[i * 2] as usize;
@@ -207,8 +208,8 @@ pub fn can_stand(
     n: usize,
     f: Four,
 ) -> bool
-    requires { ⌜ (job-refusal (now points) (now triangles) (now kept) (now table) ≡ 0) × Bound-flags (job (now points) (now triangles) (now kept) (now table) .triangles) (now bound) × (length (now bound) ≡ 4096) × (n ≡ length (points-in (now points))) × Stage n f ⌝ }
-    ensures { λ r. ⌜ (0 < quality (entry (job (now (points .entry)) (now (triangles .entry)) (now (kept .entry)) (now (table .entry))) f) → r ≡ candidate (job (now (points .entry)) (now (triangles .entry)) (now (kept .entry)) (now (table .entry))) f) ⌝ }
+    requires { ⌜ (job-refusal (job-lists (now points) (now triangles) (now kept) (now table)) ≡ 0) × Bound-flags (job (job-lists (now points) (now triangles) (now kept) (now table)) .triangles) (now bound) × (length (now bound) ≡ 4096) × (n ≡ length (points-in (now points))) × Stage n f ⌝ }
+    ensures { λ r. ⌜ (0 < quality (entry (job (job-lists (now (points .entry)) (now (triangles .entry)) (now (kept .entry)) (now (table .entry)))) f) → r ≡ candidate (job (job-lists (now (points .entry)) (now (triangles .entry)) (now (kept .entry)) (now (table .entry)))) f) ⌝ }
 {
     if !is_solid(points, f) {
         return false;
@@ -279,8 +280,8 @@ pub fn consider_four(
     quals: &mut [u32],
     k: usize,
 ) -> usize
-    requires { ⌜ (job-refusal (now points) (now triangles) (now kept) (now table) ≡ 0) × Bound-flags (job (now points) (now triangles) (now kept) (now table) .triangles) (now bound) × (length (now bound) ≡ 4096) × (n ≡ length (points-in (now points))) × Stage n f × (0 < q) × (length (now fours) ≡ 7280) × (length (now codes) ≡ 7280) × (length (now quals) ≡ 1820) × (candidate (job (now points) (now triangles) (now kept) (now table)) f ≡ true → k < 1820) ⌝ }
-    ensures { λ r. ⌜ Considered (job (now (points .entry)) (now (triangles .entry)) (now (kept .entry)) (now (table .entry))) q f (now (fours .entry)) (now (codes .entry)) (now (quals .entry)) k (now (fours .exit)) (now (codes .exit)) (now (quals .exit)) r ⌝ }
+    requires { ⌜ (job-refusal (job-lists (now points) (now triangles) (now kept) (now table)) ≡ 0) × Bound-flags (job (job-lists (now points) (now triangles) (now kept) (now table)) .triangles) (now bound) × (length (now bound) ≡ 4096) × (n ≡ length (points-in (now points))) × Stage n f × (0 < q) × (length (now fours) ≡ 7280) × (length (now codes) ≡ 7280) × (length (now quals) ≡ 1820) × (candidate (job (job-lists (now points) (now triangles) (now kept) (now table))) f ≡ true → k < 1820) ⌝ }
+    ensures { λ r. ⌜ Considered (job (job-lists (now (points .entry)) (now (triangles .entry)) (now (kept .entry)) (now (table .entry)))) q f (now (fours .entry)) (now (codes .entry)) (now (quals .entry)) k (now (fours .exit)) (now (codes .exit)) (now (quals .exit)) r ⌝ }
 {
     let e = entry(table, n, f);
     if e <= 0 {
@@ -309,7 +310,7 @@ pub fn gather(
     codes: &mut [u16],
     quals: &mut [u32],
 ) -> usize
-    requires { ⌜ (job-refusal (now points) (now triangles) (now kept) (now table) ≡ 0) × Bound-flags (job (now points) (now triangles) (now kept) (now table) .triangles) (now bound) × (length (now bound) ≡ 4096) × (0 < q) × (length (now fours) ≡ 7280) × (length (now codes) ≡ 7280) × (length (now quals) ≡ 1820) ⌝ }
+    requires { ⌜ (job-refusal (job-lists (now points) (now triangles) (now kept) (now table)) ≡ 0) × Bound-flags (job (job-lists (now points) (now triangles) (now kept) (now table)) .triangles) (now bound) × (length (now bound) ≡ 4096) × (0 < q) × (length (now fours) ≡ 7280) × (length (now codes) ≡ 7280) × (length (now quals) ≡ 1820) ⌝ }
     ensures { λ r. ⌜ Whole (now (points .entry)) (now (triangles .entry)) (now (kept .entry)) (now (table .entry)) q (now (fours .exit)) (now (codes .exit)) (now (quals .exit)) r ⌝ }
 {
     let n = points.len() / 3;

@@ -3,6 +3,7 @@ ghost use mathlib.Core.Path.{_≡_};
 ghost use Prim.Native.Nat.{_*_, _/_, _≤_, _<_};
 ghost use lib.ListN.{length};
 ghost use Rattle.laws.specs.Laws.{fours-in, bytes};
+ghost use Rattle.laws.specs.Lists.{job-lists};
 ghost use Rattle.laws.specs.Check.{job, job-refusal};
 ghost use Rattle.search.specs.Marks.{marked};
 ghost use Rattle.search.specs.Codes.{Bound-flags};
@@ -66,8 +67,8 @@ pub fn finish(
     top: u32,
     answer: &mut [u8],
 ) -> Found
-    requires { ⌜ (job-refusal (now points) (now triangles) (now kept) (now table) ≡ 0) × Rim (now triangles) (now rim) × Bound-flags (job (now points) (now triangles) (now kept) (now table) .triangles) (now bound) × (length (now bound) ≡ 4096) × Highest (now points) (now triangles) (now kept) (now table) (now fours) (now codes) (now quals) (from .count) (from .worst) top (from .mark) × (7280 ≤ length (now answer)) ⌝ }
-    ensures { λ r. ⌜ Searched (job (now (points .entry)) (now (triangles .entry)) (now (kept .entry)) (now (table .entry))) r (now (answer .entry)) (now (answer .exit)) ⌝ }
+    requires { ⌜ (job-refusal (job-lists (now points) (now triangles) (now kept) (now table)) ≡ 0) × Rim (now triangles) (now rim) × Bound-flags (job (job-lists (now points) (now triangles) (now kept) (now table)) .triangles) (now bound) × (length (now bound) ≡ 4096) × Highest (now points) (now triangles) (now kept) (now table) (now fours) (now codes) (now quals) (from .count) (from .worst) top (from .mark) × (7280 ≤ length (now answer)) ⌝ }
+    ensures { λ r. ⌜ Searched (job (job-lists (now (points .entry)) (now (triangles .entry)) (now (kept .entry)) (now (table .entry)))) r (now (answer .entry)) (now (answer .exit)) ⌝ }
 {
     let w = climb(
         points,
@@ -114,7 +115,7 @@ pub fn opening(
     rim: &[u16],
     bound: &[u8],
 ) -> u32
-    requires { ⌜ (job-refusal (now points) (now triangles) (now kept) (now table) ≡ 0) × All-below 4096 (length (now triangles) / 3) (now rim) × (length (now bound) ≡ 4096) ⌝ }
+    requires { ⌜ (job-refusal (job-lists (now points) (now triangles) (now kept) (now table)) ≡ 0) × All-below 4096 (length (now triangles) / 3) (now rim) × (length (now bound) ≡ 4096) ⌝ }
     ensures { λ r. ⌜ r ≤ 1000000 ⌝ }
 {
     let mut codes = [0u16; 7280];
@@ -143,8 +144,8 @@ pub fn search_from(
     top: u32,
     answer: &mut [u8],
 ) -> Found
-    requires { ⌜ (job-refusal (now points) (now triangles) (now kept) (now table) ≡ 0) × Rim (now triangles) (now rim) × Bound-flags (job (now points) (now triangles) (now kept) (now table) .triangles) (now bound) × (length (now bound) ≡ 4096) × (0 < low) × (low ≤ 1000000) × (top ≤ 1000001) × Under (job (now points) (now triangles) (now kept) (now table)) top × (7280 ≤ length (now answer)) ⌝ }
-    ensures { λ r. ⌜ Searched-from (job (now (points .entry)) (now (triangles .entry)) (now (kept .entry)) (now (table .entry))) low r (now (answer .entry)) (now (answer .exit)) ⌝ }
+    requires { ⌜ (job-refusal (job-lists (now points) (now triangles) (now kept) (now table)) ≡ 0) × Rim (now triangles) (now rim) × Bound-flags (job (job-lists (now points) (now triangles) (now kept) (now table)) .triangles) (now bound) × (length (now bound) ≡ 4096) × (0 < low) × (low ≤ 1000000) × (top ≤ 1000001) × Under (job (job-lists (now points) (now triangles) (now kept) (now table))) top × (7280 ≤ length (now answer)) ⌝ }
+    ensures { λ r. ⌜ Searched-from (job (job-lists (now (points .entry)) (now (triangles .entry)) (now (kept .entry)) (now (table .entry)))) low r (now (answer .entry)) (now (answer .exit)) ⌝ }
 {
     let mut fours = [0u8; 7280];
     let mut codes = [0u16; 7280];
@@ -210,8 +211,8 @@ pub fn search_accepted(
     table: &[i32],
     answer: &mut [u8],
 ) -> Found
-    requires { ⌜ (job-refusal (now points) (now triangles) (now kept) (now table) ≡ 0) × (7280 ≤ length (now answer)) ⌝ }
-    ensures { λ r. ⌜ Searched (job (now (points .entry)) (now (triangles .entry)) (now (kept .entry)) (now (table .entry))) r (now (answer .entry)) (now (answer .exit)) ⌝ }
+    requires { ⌜ (job-refusal (job-lists (now points) (now triangles) (now kept) (now table)) ≡ 0) × (7280 ≤ length (now answer)) ⌝ }
+    ensures { λ r. ⌜ Searched (job (job-lists (now (points .entry)) (now (triangles .entry)) (now (kept .entry)) (now (table .entry)))) r (now (answer .entry)) (now (answer .exit)) ⌝ }
 {
     let r = rim_codes(triangles);
     let rim = r.code;
@@ -255,7 +256,7 @@ pub fn search(
     table: &[i32],
     answer: &mut [u8],
 ) -> Found
-    ensures { λ r. ⌜ Search-says (now (points .entry)) (now (triangles .entry)) (now (kept .entry)) (now (table .entry)) r (now (answer .entry)) (now (answer .exit)) ⌝ }
+    ensures { λ r. ⌜ Search-says (job-lists (now (points .entry)) (now (triangles .entry)) (now (kept .entry)) (now (table .entry))) r (now (answer .entry)) (now (answer .exit)) ⌝ }
 {
     let number = check_job(points, triangles, kept, table);
     if number != 0 {

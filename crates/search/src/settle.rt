@@ -3,6 +3,7 @@ ghost use mathlib.Core.Path.{_≡_};
 ghost use Prim.Native.Nat.{_*_, _/_, _<_, _≤_};
 ghost use lib.ListN.{length};
 ghost use Rattle.laws.specs.Laws.{fours-in};
+ghost use Rattle.laws.specs.Lists.{job-lists};
 ghost use Rattle.laws.specs.Check.{job};
 ghost use Rattle.search.specs.Steps.{Context, Ready, Settles};
 ghost use Rattle.search.specs.Tables.{All-below, Rim, Goes-on, On-rim, Behind-set};
@@ -116,8 +117,8 @@ pub fn settle(
     m: usize,
     s: Marks,
 ) -> Settled
-    requires { ⌜ Context (now points) (now triangles) (now kept) (now table) (now fours) (now codes) (now bound) m × Rim (now triangles) (now rim) × Ready (job (now points) (now triangles) (now kept) (now table)) (fours-in m (now fours)) (s .mark) ⌝ }
-    ensures { λ r. ⌜ Settles (job (now (points .entry)) (now (triangles .entry)) (now (kept .entry)) (now (table .entry))) (fours-in m (now (fours .entry))) (s .mark) (r .kind) (r .face) (r .mark) ⌝ }
+    requires { ⌜ Context (now points) (now triangles) (now kept) (now table) (now fours) (now codes) (now bound) m × Rim (now triangles) (now rim) × Ready (job (job-lists (now points) (now triangles) (now kept) (now table))) (fours-in m (now fours)) (s .mark) ⌝ }
+    ensures { λ r. ⌜ Settles (job (job-lists (now (points .entry)) (now (triangles .entry)) (now (kept .entry)) (now (table .entry)))) (fours-in m (now (fours .entry))) (s .mark) (r .kind) (r .face) (r .mark) ⌝ }
 {
     let start = s.mark;
     let o = owners(codes, m, start, 2);

@@ -9,7 +9,8 @@ use lib.IntN.{ℤ}
 use Rattle.geometry.specs.Range.{any-far}
 use Rattle.geometry.specs.Space.{points-in}
 use Rattle.laws.specs.Laws.{choose}
-use Rattle.laws.specs.Check.{two-alike, any-tri-bad, tris-alike, directed, unmatched, edge-bad, any-entry-bad, solid-unmeasured, job, job-refusal}
+use Rattle.laws.specs.Lists.{Lists, with-table}
+use Rattle.laws.specs.Check.{two-alike, any-tri-bad, tris-alike, directed, unmatched, edge-bad, any-entry-bad, solid-unmeasured, job, refusal, first-refusal, refusals, job-refusal}
 use Rattle.laws.specs.inner.Listed.{points-right, triangles-right, kept-right, triangles-in, kept-in}
 use Rattle.laws.proofs.Checker.Points.{points-count}
 use Rattle.laws.proofs.Checker.FourLoops.{unmeasured-bare}
@@ -25,96 +26,96 @@ pub pass : {whole now number rest : ℕ} {test r : Bool} → whole ≡ now → C
 pass {number = k} {rest = rest} w c e t = w ∙ c .is ∙ ap (λ (x : Bool). cond x k rest) (sym e ∙ t)
 
 -- ---- what is left of the chain at each number
-module _ (cs : List ℤ) (ts es : List ℕ) (qs : List ℤ) where
+module _ (l : Lists) where
   unfoldable pub from-13 : ℕ
-  from-13 = cond (solid-unmeasured (job cs ts es qs)) 13 0
+  from-13 = cond (solid-unmeasured (job l)) 13 0
 
   unfoldable pub from-12 : ℕ
-  from-12 = cond (any-entry-bad qs) 12 from-13
+  from-12 = cond (any-entry-bad (l .table)) 12 from-13
 
   unfoldable pub from-11 : ℕ
-  from-11 = cond (not (eqb (length qs) (choose (length cs / 3) 4))) 11 from-12
+  from-11 = cond (not (eqb (length (l .table)) (choose (length (l .points) / 3) 4))) 11 from-12
 
   unfoldable pub from-10 : ℕ
-  from-10 = cond (edge-bad (length cs / 3) (kept-in es)) 10 from-11
+  from-10 = cond (edge-bad (length (l .points) / 3) (kept-in (l .kept))) 10 from-11
 
   unfoldable pub from-9 : ℕ
-  from-9 = cond (not (kept-right es)) 9 from-10
+  from-9 = cond (not (kept-right (l .kept))) 9 from-10
 
   unfoldable pub from-8 : ℕ
-  from-8 = cond (unmatched (directed (triangles-in ts)) (directed (triangles-in ts))) 8 from-9
+  from-8 = cond (unmatched (directed (triangles-in (l .triangles))) (directed (triangles-in (l .triangles)))) 8 from-9
 
   unfoldable pub from-7 : ℕ
-  from-7 = cond (tris-alike (triangles-in ts)) 7 from-8
+  from-7 = cond (tris-alike (triangles-in (l .triangles))) 7 from-8
 
   unfoldable pub from-6 : ℕ
-  from-6 = cond (any-tri-bad (length cs / 3) (triangles-in ts)) 6 from-7
+  from-6 = cond (any-tri-bad (length (l .points) / 3) (triangles-in (l .triangles))) 6 from-7
 
   unfoldable pub from-5 : ℕ
-  from-5 = cond (not (triangles-right ts)) 5 from-6
+  from-5 = cond (not (triangles-right (l .triangles))) 5 from-6
 
   unfoldable pub from-4 : ℕ
-  from-4 = cond (two-alike (points-in cs)) 4 from-5
+  from-4 = cond (two-alike (points-in (l .points))) 4 from-5
 
   unfoldable pub from-3 : ℕ
-  from-3 = cond (any-far cs) 3 from-4
+  from-3 = cond (any-far (l .points)) 3 from-4
 
-  pub at-3 : Chain from-3 (any-far cs) 3 from-4
+  pub at-3 : Chain from-3 (any-far (l .points)) 3 from-4
   unfolding from-3
   at-3 = record { is = refl }
 
-  pub at-4 : Chain from-4 (two-alike (points-in cs)) 4 from-5
+  pub at-4 : Chain from-4 (two-alike (points-in (l .points))) 4 from-5
   unfolding from-4
   at-4 = record { is = refl }
 
-  pub at-5 : Chain from-5 (not (triangles-right ts)) 5 from-6
+  pub at-5 : Chain from-5 (not (triangles-right (l .triangles))) 5 from-6
   unfolding from-5
   at-5 = record { is = refl }
 
-  pub at-6 : Chain from-6 (any-tri-bad (length cs / 3) (triangles-in ts)) 6 from-7
+  pub at-6 : Chain from-6 (any-tri-bad (length (l .points) / 3) (triangles-in (l .triangles))) 6 from-7
   unfolding from-6
   at-6 = record { is = refl }
 
-  pub at-7 : Chain from-7 (tris-alike (triangles-in ts)) 7 from-8
+  pub at-7 : Chain from-7 (tris-alike (triangles-in (l .triangles))) 7 from-8
   unfolding from-7
   at-7 = record { is = refl }
 
-  pub at-8 : Chain from-8 (unmatched (directed (triangles-in ts)) (directed (triangles-in ts))) 8 from-9
+  pub at-8 : Chain from-8 (unmatched (directed (triangles-in (l .triangles))) (directed (triangles-in (l .triangles)))) 8 from-9
   unfolding from-8
   at-8 = record { is = refl }
 
-  pub at-9 : Chain from-9 (not (kept-right es)) 9 from-10
+  pub at-9 : Chain from-9 (not (kept-right (l .kept))) 9 from-10
   unfolding from-9
   at-9 = record { is = refl }
 
-  pub at-10 : Chain from-10 (edge-bad (length cs / 3) (kept-in es)) 10 from-11
+  pub at-10 : Chain from-10 (edge-bad (length (l .points) / 3) (kept-in (l .kept))) 10 from-11
   unfolding from-10
   at-10 = record { is = refl }
 
-  pub at-11 : Chain from-11 (not (eqb (length qs) (choose (length cs / 3) 4))) 11 from-12
+  pub at-11 : Chain from-11 (not (eqb (length (l .table)) (choose (length (l .points) / 3) 4))) 11 from-12
   unfolding from-11
   at-11 = record { is = refl }
 
-  pub at-12 : Chain from-12 (any-entry-bad qs) 12 from-13
+  pub at-12 : Chain from-12 (any-entry-bad (l .table)) 12 from-13
   unfolding from-12
   at-12 = record { is = refl }
 
-  pub at-13 : Chain from-13 (solid-unmeasured (job cs [] [] qs)) 13 0
+  pub at-13 : Chain from-13 (solid-unmeasured (job (with-table (l .points) (l .table)))) 13 0
   unfolding from-13
-  at-13 = record { is = rw (unmeasured-bare cs qs ts es) refl }
+  at-13 = record { is = rw (unmeasured-bare l) refl }
 
 -- the number of points, said in two ways, stands in three tests
-by-count : List ℤ → List ℕ → List ℕ → List ℤ → (n : ℕ) → ℕ
-by-count cs ts es qs n =
-    cond (not (points-right cs)) 2
-    (cond (any-far cs) 3
-    (cond (two-alike (points-in cs)) 4
-    (cond (not (triangles-right ts)) 5
-    (cond (any-tri-bad n (triangles-in ts)) 6
-    (cond (tris-alike (triangles-in ts)) 7
-    (cond (unmatched (directed (triangles-in ts)) (directed (triangles-in ts))) 8
-    (cond (not (kept-right es)) 9 (cond (edge-bad n (kept-in es)) 10 (cond (not (eqb (length qs) (choose n 4))) 11 (from-12 cs ts es qs))))))))))
+by-count : Lists → (n : ℕ) → ℕ
+by-count l n =
+    cond (not (points-right (l .points))) 2
+    (cond (any-far (l .points)) 3
+    (cond (two-alike (points-in (l .points))) 4
+    (cond (not (triangles-right (l .triangles))) 5
+    (cond (any-tri-bad n (triangles-in (l .triangles))) 6
+    (cond (tris-alike (triangles-in (l .triangles))) 7
+    (cond (unmatched (directed (triangles-in (l .triangles))) (directed (triangles-in (l .triangles)))) 8
+    (cond (not (kept-right (l .kept))) 9 (cond (edge-bad n (kept-in (l .kept))) 10 (cond (not (eqb (length (l .table)) (choose n 4))) 11 (from-12 l))))))))))
 
-pub at-2 : (cs : List ℤ) (ts es : List ℕ) (qs : List ℤ) → Chain (job-refusal cs ts es qs) (not (points-right cs)) 2 (from-3 cs ts es qs)
-unfolding job-refusal job by-count from-3 from-4 from-5 from-6 from-7 from-8 from-9 from-10 from-11 from-12 from-13
-at-2 cs ts es qs = record { is = ap (by-count cs ts es qs) (points-count cs) }
+pub at-2 : (l : Lists) → Chain (job-refusal l) (not (points-right (l .points))) 2 (from-3 l)
+unfolding job-refusal refusals refusal first-refusal job by-count from-3 from-4 from-5 from-6 from-7 from-8 from-9 from-10 from-11 from-12 from-13
+at-2 l = record { is = ap (by-count l) (points-count (l .points)) }

@@ -10,6 +10,7 @@ use lib.IntN.{ℤ, negsuc}
 use Rattle.geometry.specs.Space.{points-in, solid, four}
 use Rattle.geometry.specs.declared.tetrahedron.Four.{Four}
 use Rattle.laws.specs.Laws.{Job, place, entry}
+use Rattle.laws.specs.Lists.{Lists, with-table}
 use Rattle.laws.specs.Check.{over, unmeasured, solid-unmeasured, job}
 use Rattle.laws.specs.inner.Unmeasured.{four-unmeasured, any-fourth, any-third, any-second}
 use Rattle.laws.proofs.Checker.Points.{points-count}
@@ -25,7 +26,7 @@ over-end n i f h = let d : n - i ≡ 0 = omega arith in rw d refl
 
 module _ (cs qs : List ℤ) where
   abbrev pub bare : Job
-  bare = job cs [] [] qs
+  bare = job (with-table cs qs)
 
   job-points : length (bare .points) ≡ length cs / 3
   unfolding job
@@ -47,12 +48,12 @@ module _ (cs qs : List ℤ) where
   unfolding solid-unmeasured any-second any-third any-fourth four-unmeasured
   first-start = let d : length cs / 3 - 0 ≡ length cs / 3 = omega arith in rw (d, sym job-points) refl
 
-  -- number 13 looks at points and table alone
-  pub unmeasured-bare : (ts es : List ℕ) → solid-unmeasured (job cs ts es qs) ≡ solid-unmeasured bare
-  unfolding solid-unmeasured job entry
-  unmeasured-bare ts es = refl
-
   pub four-by-parts :
       (f : Four) → four-unmeasured bare f ≡ (solid (points-in cs) f && unmeasured (getD qs (place (length cs / 3) f) (negsuc 0)))
   unfolding four-unmeasured entry job
   four-by-parts f = rw (points-count cs) refl
+
+-- number 13 looks at points and table alone
+pub unmeasured-bare : (l : Lists) → solid-unmeasured (job l) ≡ solid-unmeasured (bare (l .points) (l .table))
+unfolding solid-unmeasured job entry
+unmeasured-bare l = refl

@@ -11,7 +11,8 @@ use lib.IntN.{ℤ}
 use Rattle.geometry.specs.declared.tetrahedron.Four.{Four}
 use Rattle.geometry.specs.Range.{any-far}
 use Rattle.laws.specs.Laws.{Job, law-1, law-2, law-3, law-4, law-5, law-6, law-7, broken, lawful, choose}
-use Rattle.laws.specs.Check.{job, job-refusal, two-alike, any-tri-bad, tris-alike, directed, unmatched, edge-bad, any-entry-bad, solid-unmeasured}
+use Rattle.laws.specs.Lists.{Lists}
+use Rattle.laws.specs.Check.{job, refusal, first-refusal, refusals, job-refusal, two-alike, any-tri-bad, tris-alike, directed, unmatched, edge-bad, any-entry-bad, solid-unmeasured}
 
 -- a chain of tests gave 0: its first test failed, and the rest gave 0
 pub test-passed : (b : Bool) (n : ℕ) {x : ℕ} → cond b (suc n) x ≡ 0 → (b ≡ false) × (x ≡ 0)
@@ -57,48 +58,48 @@ unfolding lawful broken
 lawful-of k = rw (k .l1, k .l2, k .l3, k .l4, k .l5, k .l6, k .l7)
 
 -- a job that is not refused: a field for each of the numbers 2 to 13, in their order
-pub record Accepted (ps : List ℤ) (ts es : List ℕ) (qs : List ℤ) : Type 0 where
-  pub shape : (eqb (length ps % 3) 0 && (leb 4 (length (job ps ts es qs .points)) && leb (length (job ps ts es qs .points)) 16)) ≡ true
-  pub near : any-far ps ≡ false
-  pub places : two-alike (job ps ts es qs .points) ≡ false
-  pub tri-shape : (eqb (length ts % 3) 0 && (leb 4 (length ts / 3) && leb (length ts / 3) 560)) ≡ true
-  pub tris-good : any-tri-bad (length (job ps ts es qs .points)) (job ps ts es qs .triangles) ≡ false
-  pub tris-unlike : tris-alike (job ps ts es qs .triangles) ≡ false
-  pub edges-even : unmatched (directed (job ps ts es qs .triangles)) (directed (job ps ts es qs .triangles)) ≡ false
-  pub kept-shape : (eqb (length es % 2) 0 && leb (length es / 2) 120) ≡ true
-  pub kept-good : edge-bad (length (job ps ts es qs .points)) (job ps ts es qs .kept) ≡ false
-  pub table-shape : eqb (length qs) (choose (length (job ps ts es qs .points)) 4) ≡ true
-  pub entries : any-entry-bad qs ≡ false
-  pub measured : solid-unmeasured (job ps ts es qs) ≡ false
+pub record Accepted (l : Lists) : Type 0 where
+  pub shape : (eqb (length (l .points) % 3) 0 && (leb 4 (length (job l .points)) && leb (length (job l .points)) 16)) ≡ true
+  pub near : any-far (l .points) ≡ false
+  pub places : two-alike (job l .points) ≡ false
+  pub tri-shape : (eqb (length (l .triangles) % 3) 0 && (leb 4 (length (l .triangles) / 3) && leb (length (l .triangles) / 3) 560)) ≡ true
+  pub tris-good : any-tri-bad (length (job l .points)) (job l .triangles) ≡ false
+  pub tris-unlike : tris-alike (job l .triangles) ≡ false
+  pub edges-even : unmatched (directed (job l .triangles)) (directed (job l .triangles)) ≡ false
+  pub kept-shape : (eqb (length (l .kept) % 2) 0 && leb (length (l .kept) / 2) 120) ≡ true
+  pub kept-good : edge-bad (length (job l .points)) (job l .kept) ≡ false
+  pub table-shape : eqb (length (l .table)) (choose (length (job l .points)) 4) ≡ true
+  pub entries : any-entry-bad (l .table) ≡ false
+  pub measured : solid-unmeasured (job l) ≡ false
 
-pub accepted : (ps : List ℤ) (ts es : List ℕ) (qs : List ℤ) → job-refusal ps ts es qs ≡ 0 → Accepted ps ts es qs
-unfolding job-refusal
-accepted ps ts es qs h =
-    let j = job ps ts es qs in
+pub accepted : (l : Lists) → job-refusal l ≡ 0 → Accepted l
+unfolding job-refusal refusals refusal first-refusal
+accepted l h =
+    let j = job l in
     let n = length (j .points) in
-    let p2 = test-passed (not (eqb (length ps % 3) 0 && (leb 4 n && leb n 16))) 1 h in
-    let p3 = test-passed (any-far ps) 2 (p2 .1) in
+    let p2 = test-passed (not (eqb (length (l .points) % 3) 0 && (leb 4 n && leb n 16))) 1 h in
+    let p3 = test-passed (any-far (l .points)) 2 (p2 .1) in
     let p4 = test-passed (two-alike (j .points)) 3 (p3 .1) in
-    let p5 = test-passed (not (eqb (length ts % 3) 0 && (leb 4 (length ts / 3) && leb (length ts / 3) 560))) 4 (p4 .1) in
+    let p5 = test-passed (not (eqb (length (l .triangles) % 3) 0 && (leb 4 (length (l .triangles) / 3) && leb (length (l .triangles) / 3) 560))) 4 (p4 .1) in
     let p6 = test-passed (any-tri-bad n (j .triangles)) 5 (p5 .1) in
     let p7 = test-passed (tris-alike (j .triangles)) 6 (p6 .1) in
     let p8 = test-passed (unmatched (directed (j .triangles)) (directed (j .triangles))) 7 (p7 .1) in
-    let p9 = test-passed (not (eqb (length es % 2) 0 && leb (length es / 2) 120)) 8 (p8 .1) in
+    let p9 = test-passed (not (eqb (length (l .kept) % 2) 0 && leb (length (l .kept) / 2) 120)) 8 (p8 .1) in
     let p10 = test-passed (edge-bad n (j .kept)) 9 (p9 .1) in
-    let p11 = test-passed (not (eqb (length qs) (choose n 4))) 10 (p10 .1) in
-    let p12 = test-passed (any-entry-bad qs) 11 (p11 .1) in
+    let p11 = test-passed (not (eqb (length (l .table)) (choose n 4))) 10 (p10 .1) in
+    let p12 = test-passed (any-entry-bad (l .table)) 11 (p11 .1) in
     let p13 = test-passed (solid-unmeasured j) 12 (p12 .1) in
     record {
-      shape = not-false (eqb (length ps % 3) 0 && (leb 4 n && leb n 16)) (p2 .0);
+      shape = not-false (eqb (length (l .points) % 3) 0 && (leb 4 n && leb n 16)) (p2 .0);
       near = p3 .0;
       places = p4 .0;
-      tri-shape = not-false (eqb (length ts % 3) 0 && (leb 4 (length ts / 3) && leb (length ts / 3) 560)) (p5 .0);
+      tri-shape = not-false (eqb (length (l .triangles) % 3) 0 && (leb 4 (length (l .triangles) / 3) && leb (length (l .triangles) / 3) 560)) (p5 .0);
       tris-good = p6 .0;
       tris-unlike = p7 .0;
       edges-even = p8 .0;
-      kept-shape = not-false (eqb (length es % 2) 0 && leb (length es / 2) 120) (p9 .0);
+      kept-shape = not-false (eqb (length (l .kept) % 2) 0 && leb (length (l .kept) / 2) 120) (p9 .0);
       kept-good = p10 .0;
-      table-shape = not-false (eqb (length qs) (choose n 4)) (p11 .0);
+      table-shape = not-false (eqb (length (l .table)) (choose n 4)) (p11 .0);
       entries = p12 .0;
       measured = p13 .0;
     }

@@ -42,10 +42,10 @@ places-right n f g h rf rg lf lg = (place-below n f u, λ e. go e (four-trichoto
 -- at most C(16, 4) = 1,820 fours of 4 bytes each
 pub fits : Fits
 unfolding Fits
-fits ps ts es qs fs r k =
-    let n = length (job ps ts es qs .points) in
-    let a = and-true (leb 4 n) (leb n 16) (and-true (eqb (length ps % 3) 0) (leb 4 n && leb n 16) (accepted ps ts es qs r .shape) .1) in
-    let l = at-most-1820 n fs (leb-true n 16 (a .1)) (keeps (job ps ts es qs) fs k .l1) in
+fits l fs r k =
+    let n = length (job l .points) in
+    let a = and-true (leb 4 n) (leb n 16) (and-true (eqb (length (l .points) % 3) 0) (leb 4 n && leb n 16) (accepted l r .shape) .1) in
+    let m = at-most-1820 n fs (leb-true n 16 (a .1)) (keeps (job l) fs k .l1) in
     let e = length-bytes fs in (omega arith, bytes-read-back fs)
 
 -- each of two would come before the other
@@ -63,13 +63,13 @@ best-alone j fs gs b c = by-dec (list-discrete fs gs)
 -- the best of the finitely many lists that keep law 1
 pub best-there : Best-there
 unfolding Best-there
-best-there ps ts es qs gs r l = best-exists (job ps ts es qs) gs l
+best-there l gs r k = best-exists (job l) gs k
 
 -- both sums are fixed by the boundary
 pub same-space : Same-space
 unfolding Same-space
-same-space ps ts es qs fs gs r k l =
-    let j = job ps ts es qs in
-    let o = unlike-once (j .triangles) (accepted ps ts es qs r .tris-unlike) in
+same-space l fs gs r k m =
+    let j = job l in
+    let o = unlike-once (j .triangles) (accepted l r .tris-unlike) in
     value-equal (sum-D (j .points) fs) (sum-D (j .points) gs)
-    (sum-D-total (j .points) fs ∙ volume j fs o (keeps j fs k .l4) ∙ sym (volume j gs o (keeps j gs l .l4)) ∙ sym (sum-D-total (j .points) gs))
+    (sum-D-total (j .points) fs ∙ volume j fs o (keeps j fs k .l4) ∙ sym (volume j gs o (keeps j gs m .l4)) ∙ sym (sum-D-total (j .points) gs))

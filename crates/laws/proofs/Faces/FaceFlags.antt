@@ -14,6 +14,7 @@ use lib.Seq.{getD-set-same, getD-set-other}
 use Rattle.geometry.specs.Space.{points-in}
 use Rattle.geometry.specs.declared.tetrahedron.Four.{Four}
 use Rattle.laws.specs.Laws.{Job, Tri, same-tri, reversed, has, once, all-in, matched, all-faces, law-4}
+use Rattle.laws.specs.Lists.{with-triangles}
 use Rattle.laws.specs.Check.{job, any-tri-bad}
 use Rattle.laws.specs.inner.Listed.{triangles-in}
 use Rattle.laws.specs.inner.FaceCodes.{Proper, face-code}
@@ -103,18 +104,18 @@ module _ (cs : List ℤ) (ts ls : List ℕ) (w : Well-listed cs ls) (b : any-tri
   abbrev all : List Tri
   all = all-faces (points-in cs) (fours-listed ls)
 
-  by-flags : law-4-by-flags T all ≡ law-4 (job cs ts [] []) (fours-listed ls)
+  by-flags : law-4-by-flags T all ≡ law-4 (job (with-triangles cs ts)) (fours-listed ls)
   unfolding job
   by-flags =
-      law-4-is (job cs ts [] []) (fours-listed ls) (boundary-proper (length (points-in cs)) T (w .few) b)
+      law-4-is (job (with-triangles cs ts)) (fours-listed ls) (boundary-proper (length (points-in cs)) T (w .few) b)
       (all-faces-proper (length (points-in cs)) (points-in cs) (w .few) (law-1-well-formed (length (points-in cs)) (fours-listed ls) (w .order)))
 
   module _ {r : Bool} {own : List ℕ} (e : (r ≡ all-new all no-flags) × (own ≡ flag-all all no-flags)) where
-    pub face-twice : not r ≡ true → false ≡ law-4 (job cs ts [] []) (fours-listed ls)
+    pub face-twice : not r ≡ true → false ≡ law-4 (job (with-triangles cs ts)) (fours-listed ls)
     unfolding law-4-by-flags
     face-twice h = let p : all-new all no-flags ≡ false = sym (e .0) ∙ not-true r h in sym (sym by-flags ∙ rw p refl)
 
-    pub boundary-bare : {s : Bool} → not r ≡ false → s ≡ all-flagged T own → not s ≡ true → false ≡ law-4 (job cs ts [] []) (fours-listed ls)
+    pub boundary-bare : {s : Bool} → not r ≡ false → s ≡ all-flagged T own → not s ≡ true → false ≡ law-4 (job (with-triangles cs ts)) (fours-listed ls)
     unfolding law-4-by-flags
     boundary-bare {s} h d k =
         let p : all-new all no-flags ≡ true = sym (e .0) ∙ not-false r h in
@@ -122,7 +123,7 @@ module _ (cs : List ℤ) (ts ls : List ℕ) (w : Well-listed cs ls) (b : any-tri
 
     pub closed-decides :
         {s t : Bool} {bnd : List ℕ} → not r ≡ false → s ≡ all-flagged T own → not s ≡ false → bnd ≡ flag-all T no-flags → t ≡ all-closed all own bnd →
-        t ≡ law-4 (job cs ts [] []) (fours-listed ls)
+        t ≡ law-4 (job (with-triangles cs ts)) (fours-listed ls)
     unfolding law-4-by-flags
     closed-decides {s} {t} {bnd} h d k m c =
         let p : all-new all no-flags ≡ true = sym (e .0) ∙ not-false r h in

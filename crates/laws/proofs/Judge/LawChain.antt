@@ -7,29 +7,30 @@ use lib.ListN.{length}
 use lib.IntN.{ℤ}
 use Rattle.geometry.specs.declared.tetrahedron.Four.{Four}
 use Rattle.laws.specs.Laws.{Job, entry, law-1, law-2, law-3, law-4, law-5, law-6, law-7, corners-from, all-kept, broken, worst-from}
+use Rattle.laws.specs.Lists.{Lists, points-only, with-triangles, with-table}
 use Rattle.laws.specs.Check.{job}
 use Rattle.laws.specs.inner.Listed.{kept-in}
 use Rattle.laws.proofs.Checker.Points.{points-count}
 use Rattle.laws.proofs.Checker.Chain.{Chain}
 
 -- ---- a law sees the parts of the job that it names
-module _ (ps : List ℤ) (ts es : List ℕ) (qs : List ℤ) where
-  sees-2 : (fs : List Four) → law-2 (job ps ts es qs) fs ≡ law-2 (job ps [] [] qs) fs
+module _ (l : Lists) where
+  sees-2 : (fs : List Four) → law-2 (job l) fs ≡ law-2 (job (with-table (l .points) (l .table))) fs
   unfolding law-2 job entry
   sees-2 [] = refl
   sees-2 (f ∷ fs) = rw (sees-2 fs) refl
 
-  sees-3 : (fs : List Four) → law-3 (job ps ts es qs) fs ≡ law-3 (job ps [] [] []) fs
+  sees-3 : (fs : List Four) → law-3 (job l) fs ≡ law-3 (job (points-only (l .points))) fs
   unfolding law-3 job
   sees-3 [] = refl
   sees-3 (f ∷ fs) = rw (sees-3 fs) refl
 
-  sees-5 : (fs : List Four) → law-5 (job ps ts es qs) fs ≡ law-5 (job ps [] [] []) fs
+  sees-5 : (fs : List Four) → law-5 (job l) fs ≡ law-5 (job (points-only (l .points))) fs
   unfolding law-5 job
   sees-5 [] = refl
   sees-5 (f ∷ fs) = rw (sees-5 fs) refl
 
-  pub sees-worst : (w : ℕ) (fs : List Four) → worst-from w (job ps ts es qs) fs ≡ worst-from w (job ps [] [] qs) fs
+  pub sees-worst : (w : ℕ) (fs : List Four) → worst-from w (job l) fs ≡ worst-from w (job (with-table (l .points) (l .table))) fs
   unfolding worst-from job entry
   sees-worst w [] = refl
   sees-worst w (f ∷ fs) = sees-worst _ fs
@@ -58,35 +59,35 @@ module _ (j : Job) (fs : List Four) where
   unfolding broken after-1 after-2 after-3 after-4 after-5 after-6
   broken-chain = refl
 
-module _ (ps : List ℤ) (ts es : List ℕ) (qs : List ℤ) (fs : List Four) where
-  pub at-1 : Chain (broken (job ps ts es qs) fs) (not (law-1 (length ps / 3) fs)) 1 (after-1 (job ps ts es qs) fs)
+module _ (l : Lists) (fs : List Four) where
+  pub at-1 : Chain (broken (job l) fs) (not (law-1 (length (l .points) / 3) fs)) 1 (after-1 (job l) fs)
   unfolding job
   at-1 =
-      record { is = broken-chain (job ps ts es qs) fs ∙ ap (λ (n : ℕ). cond (not (law-1 n fs)) 1 (after-1 (job ps ts es qs) fs)) (points-count ps) }
+      record { is = broken-chain (job l) fs ∙ ap (λ (n : ℕ). cond (not (law-1 n fs)) 1 (after-1 (job l) fs)) (points-count (l .points)) }
 
-  pub at-2 : Chain (after-1 (job ps ts es qs) fs) (not (law-2 (job ps [] [] qs) fs)) 2 (after-2 (job ps ts es qs) fs)
+  pub at-2 : Chain (after-1 (job l) fs) (not (law-2 (job (with-table (l .points) (l .table))) fs)) 2 (after-2 (job l) fs)
   unfolding after-1
-  at-2 = record { is = ap (λ (b : Bool). cond (not b) 2 (after-2 (job ps ts es qs) fs)) (sees-2 ps ts es qs fs) }
+  at-2 = record { is = ap (λ (b : Bool). cond (not b) 2 (after-2 (job l) fs)) (sees-2 l fs) }
 
-  pub at-3 : Chain (after-2 (job ps ts es qs) fs) (not (law-3 (job ps [] [] []) fs)) 3 (after-3 (job ps ts es qs) fs)
+  pub at-3 : Chain (after-2 (job l) fs) (not (law-3 (job (points-only (l .points))) fs)) 3 (after-3 (job l) fs)
   unfolding after-2
-  at-3 = record { is = ap (λ (b : Bool). cond (not b) 3 (after-3 (job ps ts es qs) fs)) (sees-3 ps ts es qs fs) }
+  at-3 = record { is = ap (λ (b : Bool). cond (not b) 3 (after-3 (job l) fs)) (sees-3 l fs) }
 
-  pub at-4 : Chain (after-3 (job ps ts es qs) fs) (not (law-4 (job ps ts [] []) fs)) 4 (after-4 (job ps ts es qs) fs)
+  pub at-4 : Chain (after-3 (job l) fs) (not (law-4 (job (with-triangles (l .points) (l .triangles))) fs)) 4 (after-4 (job l) fs)
   unfolding after-3 law-4 job
   at-4 = record { is = refl }
 
-  pub at-5 : Chain (after-4 (job ps ts es qs) fs) (not (law-5 (job ps [] [] []) fs)) 5 (after-5 (job ps ts es qs) fs)
+  pub at-5 : Chain (after-4 (job l) fs) (not (law-5 (job (points-only (l .points))) fs)) 5 (after-5 (job l) fs)
   unfolding after-4
-  at-5 = record { is = ap (λ (b : Bool). cond (not b) 5 (after-5 (job ps ts es qs) fs)) (sees-5 ps ts es qs fs) }
+  at-5 = record { is = ap (λ (b : Bool). cond (not b) 5 (after-5 (job l) fs)) (sees-5 l fs) }
 
-  pub at-6 : Chain (after-5 (job ps ts es qs) fs) (not (corners-from (length ps / 3) 0 fs)) 6 (after-6 (job ps ts es qs) fs)
+  pub at-6 : Chain (after-5 (job l) fs) (not (corners-from (length (l .points) / 3) 0 fs)) 6 (after-6 (job l) fs)
   unfolding after-5 law-6 job
-  at-6 = record { is = ap (λ (n : ℕ). cond (not (corners-from n 0 fs)) 6 (after-6 (job ps ts es qs) fs)) (points-count ps) }
+  at-6 = record { is = ap (λ (n : ℕ). cond (not (corners-from n 0 fs)) 6 (after-6 (job l) fs)) (points-count (l .points)) }
 
-  pub at-7 : Chain (after-6 (job ps ts es qs) fs) (not (all-kept (kept-in es) fs)) 7 0
+  pub at-7 : Chain (after-6 (job l) fs) (not (all-kept (kept-in (l .kept)) fs)) 7 0
   unfolding after-6 law-7 job
-  at-7 = record { is = other-way (all-kept (kept-in es) fs) }
+  at-7 = record { is = other-way (all-kept (kept-in (l .kept)) fs) }
     where
       other-way : (b : Bool) → _≡_ {A = ℕ} (cond b 0 7) (cond (not b) 7 0)
       other-way true = refl

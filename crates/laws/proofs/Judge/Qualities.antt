@@ -15,13 +15,14 @@ use Rattle.geometry.specs.Space.{points-in, solid}
 use Rattle.geometry.specs.declared.tetrahedron.Four.{Four}
 use Rattle.geometry.proofs.Machine.{kept-at}
 use Rattle.laws.specs.Laws.{Job, place, entry, quality, worst, worst-from}
+use Rattle.laws.specs.Lists.{with-table}
 use Rattle.laws.specs.Check.{job}
 use Rattle.laws.proofs.Checker.Points.{points-count}
 use Rattle.laws.specs.inner.ListedFours.{fours-listed, fours-from}
 use Rattle.laws.proofs.Judge.FourList.{fours-start}
 
 -- the entry that the function reads is the job's
-pub entry-is : (ps qs : List ℤ) (f : Four) {v : ℤ} → v ≡ getD qs (place (length ps / 3) f) (negsuc 0) → v ≡ entry (job ps [] [] qs) f
+pub entry-is : (ps qs : List ℤ) (f : Four) {v : ℤ} → v ≡ getD qs (place (length ps / 3) f) (negsuc 0) → v ≡ entry (job (with-table ps qs)) f
 unfolding entry job
 entry-is ps qs f e = e ∙ ap (λ (n : ℕ). getD qs (place n f) (negsuc 0)) (sym (points-count ps))
 
@@ -32,7 +33,7 @@ below-zero (negsuc n) h = refl
 
 pub no-quality :
     (ps qs : List ℤ) (f : Four) {v : ℤ} → v ≡ getD qs (place (length ps / 3) f) (negsuc 0) → mag v < 2 ^ hbits w32 → ltZ (toZ w32 (ofZ w32 v)) (pos 0) ≡ true →
-    0 ≡ quality (entry (job ps [] [] qs) f)
+    0 ≡ quality (entry (job (with-table ps qs)) f)
 no-quality ps qs f {v} e m h = below-zero v (ap (λ (x : ℤ). ltZ x (pos 0)) (sym (kept-at w32 v m)) ∙ h) ∙ ap quality (entry-is ps qs f e)
 
 not-below : (v x : ℤ) → x ≡ v → mag v < 2 ^ hbits w32 → ltZ x (pos 0) ≡ false → T (nonNeg x) × Fits w32 (natAbs x) × (natAbs x ≡ quality v)
@@ -45,7 +46,7 @@ cast-fits v m h = let r = not-below v (toZ w32 (ofZ w32 v)) (kept-at w32 v m) m 
 
 pub quality-is :
     (ps qs : List ℤ) (f : Four) {v : ℤ} → v ≡ getD qs (place (length ps / 3) f) (negsuc 0) → mag v < 2 ^ hbits w32 → ltZ (toZ w32 (ofZ w32 v)) (pos 0) ≡ false →
-    natAbs (toZ w32 (ofZ w32 v)) ≡ quality (entry (job ps [] [] qs) f)
+    natAbs (toZ w32 (ofZ w32 v)) ≡ quality (entry (job (with-table ps qs)) f)
 quality-is ps qs f {v} e m h = not-below v (toZ w32 (ofZ w32 v)) (kept-at w32 v m) m h .2 ∙ ap quality (entry-is ps qs f e)
 
 -- ---- the two tests of law 2
@@ -56,8 +57,8 @@ pub quality-decides : {s : Bool} {r : Bool} {q x : ℕ} → r ≡ s → not r �
 quality-decides {r = r} {q = q} {x = x} e h p = ap (ltb 0) p ∙ sym (ap (λ (y : Bool). y && ltb 0 x) (sym e ∙ not-false r h))
 
 pub has-quality-is :
-    (ps qs : List ℤ) {r : Bool} {f g : Four} → r ≡ (solid (points-in ps) f && ltb 0 (quality (entry (job ps [] [] qs) f))) → f ≡ g →
-    r ≡ (solid (points-in ps) g && ltb 0 (quality (entry (job ps [] [] qs) g)))
+    (ps qs : List ℤ) {r : Bool} {f g : Four} → r ≡ (solid (points-in ps) f && ltb 0 (quality (entry (job (with-table ps qs)) f))) → f ≡ g →
+    r ≡ (solid (points-in ps) g && ltb 0 (quality (entry (job (with-table ps qs)) g)))
 has-quality-is ps qs h e = cc
 
 -- ---- the worst quality

@@ -9,6 +9,7 @@ use lib.ListN.{length}
 use lib.IntN.{ℤ}
 use Rattle.geometry.specs.Range.{any-far}
 use Rattle.laws.specs.Laws.{choose}
+use Rattle.laws.specs.Lists.{Lists, job-lists}
 use Rattle.laws.specs.Check.{job-refusal}
 use Rattle.laws.proofs.Checker.Points.{points-count}
 use Rattle.laws.proofs.Checker.Refusal.{Few, points-few, triangles-few, all-within}
@@ -54,13 +55,14 @@ abbrev start-13 : tie.Else12 → tie.Start
 start-13 c = start-12 (c .before .before)
 
 -- the answer is what the chain of numbers still has to say
-abbrev Left : (List ℤ → List ℕ → List ℕ → List ℤ → ℕ) → tie.Start → Type 0
-Left rest s =
-    let x = s .args in
-    job-refusal (x .points .now) (x .triangles .now) (x .kept .now) (x .table .now) ≡ rest (x .points .now) (x .triangles .now) (x .kept .now) (x .table .now)
+abbrev the-lists : tie.Start → Lists
+the-lists s = job-lists (s .args .points .now) (s .args .triangles .now) (s .args .kept .now) (s .args .table .now)
 
-abbrev link : {Link : List ℤ → List ℕ → List ℕ → List ℤ → Type 0} → ((cs : List ℤ) (ts es : List ℕ) (qs : List ℤ) → Link cs ts es qs) → (s : tie.Start) → Link (s .args .points .now) (s .args .triangles .now) (s .args .kept .now) (s .args .table .now)
-link at s = at (s .args .points .now) (s .args .triangles .now) (s .args .kept .now) (s .args .table .now)
+abbrev Left : (Lists → ℕ) → tie.Start → Type 0
+Left rest s = job-refusal (the-lists s) ≡ rest (the-lists s)
+
+abbrev link : {Link : Lists → Type 0} → ((l : Lists) → Link l) → (s : tie.Start) → Link (the-lists s)
+link at s = at (the-lists s)
 
 passed-2 : (c : tie.Else1) → Left from-3 (start-2 c)
 passed-2 c = pass refl (link at-2 (start-2 c)) (ap not (c .before .points-fit .ensures)) (c .if1 .left)
@@ -95,7 +97,7 @@ passed-11 c = pass (passed-10 (c .before .before)) (link at-11 (start-11 c)) (ap
 passed-12 : (c : tie.Else11) → Left from-13 (start-12 c)
 passed-12 c = pass (passed-11 (c .before .before)) (link at-12 (start-12 c)) (c .before .any-entry-bad .ensures) (c .if11 .left)
 
-passed-13 : (c : tie.Else12) → Left (λ _ _ _ _. 0) (start-13 c)
+passed-13 : (c : tie.Else12) → Left (λ l. 0) (start-13 c)
 passed-13 c = pass (passed-12 (c .before .before)) (link at-13 (start-13 c)) (c .before .solid-unmeasured .ensures) (c .if12 .left)
 
 -- what the first tests tell the later ones

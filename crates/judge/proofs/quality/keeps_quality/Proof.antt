@@ -5,6 +5,7 @@ use lib.ListN.{length}
 use mathlib.Core.List.{[]}
 use Rattle.geometry.specs.Space.{points-in}
 use Rattle.laws.specs.Laws.{law-2}
+use Rattle.laws.specs.Lists.{with-table}
 use Rattle.laws.specs.Check.{job}
 use Rattle.laws.specs.inner.ListedFours.{fours-listed, fours-from}
 use Rattle.laws.proofs.Basics.Passes.{fails, passes}
@@ -16,13 +17,13 @@ use Rattle.judge.proofs.quality.keeps_quality.Statement.{statement}
 use Rattle.judge.proofs.quality.keeps_quality.Tie as tie
 
 abbrev Inv-loop : tie.InvT-loop
-Inv-loop points table list i₀ i-end i = (i ≤ length list / 4) × (i-end ≡ length list / 4) × (law-2 (job points [] [] table) (fours-listed list) ≡ law-2 (job points [] [] table) (fours-from list i))
+Inv-loop points table list i₀ i-end i = (i ≤ length list / 4) × (i-end ≡ length list / 4) × (law-2 (job (with-table points table)) (fours-listed list) ≡ law-2 (job (with-table points table)) (fours-from list i))
 
 abbrev μ-loop : tie.MeasureT-loop
 μ-loop points table list i₀ i-end i = i-end - i
 
 loop-holds : tie.Need-loop-holds Inv-loop μ-loop
-loop-holds c = let s = c .before .args in (omega arith, refl, ap (law-2 (job (s .points .now) [] [] (s .table .now))) (fours-start (s .list .now)))
+loop-holds c = let s = c .before .args in (omega arith, refl, ap (law-2 (job (with-table (s .points .now) (s .table .now)))) (fours-start (s .list .now)))
 
 four-at-requires : tie.Need-four-at-requires Inv-loop μ-loop
 four-at-requires c κs = omega arith
@@ -37,7 +38,7 @@ returns : tie.Need-returns Inv-loop μ-loop
 unfolding job
 returns c =
     let s = c .before .before .before .before .before .before .args in
-    fails (c .before .before .before .before .loop .inv .2) (quality-test (s .list .now) (c .before .before .before .before .loop .i) (omega arith) (job (s .points .now) [] [] (s .table .now))) (has-quality-is (s .points .now) (s .table .now) (c .before .has-quality .ensures) (c .before .before .four-at .ensures)) (c .if1 .taken)
+    fails (c .before .before .before .before .loop .inv .2) (quality-test (s .list .now) (c .before .before .before .before .loop .i) (omega arith) (job (with-table (s .points .now) (s .table .now)))) (has-quality-is (s .points .now) (s .table .now) (c .before .has-quality .ensures) (c .before .before .four-at .ensures)) (c .if1 .taken)
 
 add-i : tie.Need-add-i Inv-loop μ-loop
 add-i c = omega arith
@@ -49,10 +50,10 @@ loop-again : tie.Need-loop-again Inv-loop μ-loop
 unfolding job
 loop-again c =
     let s = c .before .before .before .before .before .before .args in
-    (omega arith, omega arith, passes (c .before .before .before .before .loop .inv .2) (quality-test (s .list .now) (c .before .before .before .before .loop .i) (omega arith) (job (s .points .now) [] [] (s .table .now))) (has-quality-is (s .points .now) (s .table .now) (c .before .has-quality .ensures) (c .before .before .four-at .ensures)) (c .if1 .left))
+    (omega arith, omega arith, passes (c .before .before .before .before .loop .inv .2) (quality-test (s .list .now) (c .before .before .before .before .loop .i) (omega arith) (job (with-table (s .points .now) (s .table .now)))) (has-quality-is (s .points .now) (s .table .now) (c .before .has-quality .ensures) (c .before .before .four-at .ensures)) (c .if1 .left))
 
 returns-2 : tie.Need-returns-2 Inv-loop μ-loop
-returns-2 c = let s = c .before .before .before .args in sym (c .before .loop .inv .2 ∙ quality-end (s .list .now) (c .before .loop .i) (omega arith) (job (s .points .now) [] [] (s .table .now)))
+returns-2 c = let s = c .before .before .before .args in sym (c .before .loop .inv .2 ∙ quality-end (s .list .now) (c .before .loop .i) (omega arith) (job (with-table (s .points .now) (s .table .now))))
 
 pub keeps-quality-spec : {M : Type 1} → statement M
 keeps-quality-spec =

@@ -5,6 +5,7 @@ use lib.ListN.{length}
 use mathlib.Core.List.{[]}
 use Rattle.geometry.specs.Space.{points-in}
 use Rattle.laws.specs.Laws.{worst, worst-from}
+use Rattle.laws.specs.Lists.{with-table}
 use Rattle.laws.specs.Check.{job}
 use Rattle.laws.specs.inner.ListedFours.{fours-listed, fours-from}
 use Rattle.laws.proofs.Judge.FourList.{ordered-at, ordered-is}
@@ -15,13 +16,13 @@ use Rattle.judge.proofs.quality.worst_of.Statement.{statement}
 use Rattle.judge.proofs.quality.worst_of.Tie as tie
 
 abbrev Inv-loop : tie.InvT-loop
-Inv-loop points table list least₀ i₀ i-end least i = (i ≤ length list / 4) × (i-end ≡ length list / 4) × (worst (job points [] [] table) (fours-listed list) ≡ worst-from least (job points [] [] table) (fours-from list i))
+Inv-loop points table list least₀ i₀ i-end least i = (i ≤ length list / 4) × (i-end ≡ length list / 4) × (worst (job (with-table points table)) (fours-listed list) ≡ worst-from least (job (with-table points table)) (fours-from list i))
 
 abbrev μ-loop : tie.MeasureT-loop
 μ-loop points table list least₀ i₀ i-end least i = i-end - i
 
 loop-holds : tie.Need-loop-holds Inv-loop μ-loop
-loop-holds c = let s = c .before .args in (omega arith, refl, worst-start (job (s .points .now) [] [] (s .table .now)) (s .list .now))
+loop-holds c = let s = c .before .args in (omega arith, refl, worst-start (job (with-table (s .points .now) (s .table .now))) (s .list .now))
 
 four-at-requires : tie.Need-four-at-requires Inv-loop μ-loop
 four-at-requires c κs = omega arith
@@ -44,10 +45,10 @@ loop-less c = omega arith
 loop-again : tie.Need-loop-again Inv-loop μ-loop
 loop-again c =
     let s = c .before .before .before .before .before .before .args in
-    (omega arith, omega arith, c .before .before .before .before .loop .inv .2 ∙ worst-step (s .list .now) (c .before .before .before .before .loop .i) (omega arith) (c .before .before .before .before .loop .least) (job (s .points .now) [] [] (s .table .now)) ∙ least-is (job (s .points .now) [] [] (s .table .now)) (fours-from (s .list .now) (c .before .before .before .before .loop .i + 1)) (c .before .before .before .before .loop .least) (c .lesser .ensures) (c .before .quality-of .ensures) (c .before .before .four-at .ensures))
+    (omega arith, omega arith, c .before .before .before .before .loop .inv .2 ∙ worst-step (s .list .now) (c .before .before .before .before .loop .i) (omega arith) (c .before .before .before .before .loop .least) (job (with-table (s .points .now) (s .table .now))) ∙ least-is (job (with-table (s .points .now) (s .table .now))) (fours-from (s .list .now) (c .before .before .before .before .loop .i + 1)) (c .before .before .before .before .loop .least) (c .lesser .ensures) (c .before .quality-of .ensures) (c .before .before .four-at .ensures))
 
 returns : tie.Need-returns Inv-loop μ-loop
-returns c = let s = c .before .before .before .args in sym (c .before .loop .inv .2 ∙ worst-end (s .list .now) (c .before .loop .i) (omega arith) (c .before .loop .least) (job (s .points .now) [] [] (s .table .now)))
+returns c = let s = c .before .before .before .args in sym (c .before .loop .inv .2 ∙ worst-end (s .list .now) (c .before .loop .i) (omega arith) (c .before .loop .least) (job (with-table (s .points .now) (s .table .now))))
 
 pub worst-of-spec : {M : Type 1} → statement M
 worst-of-spec =

@@ -20,6 +20,7 @@ use Rattle.search.proofs.settle.settle.Reads as settle-reads
 use Rattle.search.proofs.extend.+corner+face.{statement}
 use Rattle.search.proofs.extend.+corner+face.Tie.{close}
 use Rattle.laws.specs.Laws.{fours-in}
+use Rattle.laws.specs.Lists.{job-lists}
 use Rattle.laws.specs.Check.{job}
 use Rattle.search.specs.Marks.{live}
 use Rattle.search.proofs.Reduction.{reduced-trans, reduced-back}
@@ -69,7 +70,7 @@ corner-returns t c =
 
 abbrev face-Inv-loop : face-lts.InvT-loop
 face-Inv-loop points triangles kept table fours codes rim bound m kind at mark w₀ nodes₀ shaved₀ k₀ w nodes shaved k =
-    (k ≤ m) × Tried (job points triangles kept table) (fours-in m fours) codes at mark (w .mark) k
+    (k ≤ m) × Tried (job (job-lists points triangles kept table)) (fours-in m fours) codes at mark (w .mark) k
 
 abbrev face-μ-loop : face-lts.MeasureT-loop
 face-μ-loop points triangles kept table fours codes rim bound m kind at mark w₀ nodes₀ shaved₀ k₀ w nodes shaved k = m - k

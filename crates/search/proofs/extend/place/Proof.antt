@@ -8,6 +8,7 @@ use borrow.Author.Tests.{not-true, not-false}
 use Rattle.search.proofs.extend.place.Statement.{statement}
 use Rattle.search.proofs.extend.place.Tie as tie
 use Rattle.laws.specs.Laws.{fours-in}
+use Rattle.laws.specs.Lists.{job-lists}
 use Rattle.laws.specs.Check.{job}
 use Rattle.search.proofs.PlaceLoop.{Placing, placing-start, placing-dead, placing-keep, placing-drop, placing-end, placing-other, placed-before}
 use Rattle.search.proofs.Context.{context-count}
@@ -15,7 +16,7 @@ use Rattle.search.proofs.Numbers.{mark-within}
 
 abbrev Inv-loop : tie.InvT-loop
 Inv-loop points triangles kept table fours codes bound m t w₀ k₀ w k =
-    (k ≤ m) × Placing (job points triangles kept table) (fours-in m fours) t (w₀ .mark) (w .mark) k
+    (k ≤ m) × Placing (job (job-lists points triangles kept table)) (fours-in m fours) t (w₀ .mark) (w .mark) k
 
 abbrev μ-loop : tie.MeasureT-loop
 μ-loop points triangles kept table fours codes bound m t w₀ k₀ w k = m - k

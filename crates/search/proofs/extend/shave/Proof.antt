@@ -5,6 +5,7 @@ use native.Mathlib.Omega.{arith}
 use Rattle.search.proofs.extend.shave.Statement.{statement}
 use Rattle.search.proofs.extend.shave.Tie as tie
 use Rattle.laws.specs.Laws.{fours-in}
+use Rattle.laws.specs.Lists.{job-lists}
 use Rattle.laws.specs.Check.{job}
 use Rattle.search.specs.Marks.{Reduced}
 use Rattle.search.proofs.Reduction.{reduced-refl}
@@ -13,7 +14,7 @@ use Rattle.search.proofs.Shaving.{reduced-hopeless}
 
 abbrev Inv-loop : tie.InvT-loop
 Inv-loop points triangles kept table fours codes rim bound m w₀ k₀ w k =
-    (k ≤ m) × Reduced (job points triangles kept table) (fours-in m fours) (w₀ .mark) (w .mark)
+    (k ≤ m) × Reduced (job (job-lists points triangles kept table)) (fours-in m fours) (w₀ .mark) (w .mark)
 
 abbrev μ-loop : tie.MeasureT-loop
 μ-loop points triangles kept table fours codes rim bound m w₀ k₀ w k = m - k

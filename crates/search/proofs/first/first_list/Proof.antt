@@ -6,6 +6,7 @@ use Prim.Native.Nat.{ℕ, suc, _+_, _-_, _≤_}
 use native.Mathlib.Omega.{arith}
 use borrow.Author.Needs.{needs}
 use Rattle.laws.specs.Laws.{fours-in, worst}
+use Rattle.laws.specs.Lists.{job-lists}
 use Rattle.laws.specs.Check.{job}
 use Rattle.search.specs.Marks.{marked}
 use Rattle.search.specs.Steps.{Context}
@@ -17,7 +18,7 @@ use Rattle.search.proofs.first.first_list.Tie as tie
 
 abbrev Inv-loop : tie.InvT-loop
 Inv-loop points triangles kept table rim bound fours codes quals m w₀ s₀ k₀ w s k =
-    (k ≤ m) × Committed (job points triangles kept table) (worst (job points triangles kept table) (marked 2 (fours-in m fours) (w₀ .mark))) (fours-in m fours) (w .mark) (s .mark) k
+    (k ≤ m) × Committed (job (job-lists points triangles kept table)) (worst (job (job-lists points triangles kept table)) (marked 2 (fours-in m fours) (w₀ .mark))) (fours-in m fours) (w .mark) (s .mark) k
 
 abbrev μ-loop : tie.MeasureT-loop
 μ-loop points triangles kept table rim bound fours codes quals m w₀ s₀ k₀ w s k = m - k
@@ -32,12 +33,12 @@ context s = filed-context (s .pre .0) (highest s .whole .filed) (s .pre .2) (s .
 -- at the loop: what is committed, with its marks given
 abbrev Course-at : (s : tie.Start Inv-loop μ-loop) → ℕ → (ws ss : List ℕ) → ℕ → Type 0
 Course-at s q ws ss k =
-    let x = s .args in Committed (job (x .points .now) (x .triangles .now) (x .kept .now) (x .table .now)) q (fours-in (x .from .count) (x .fours .now)) ws ss k
+    let x = s .args in Committed (job (job-lists (x .points .now) (x .triangles .now) (x .kept .now) (x .table .now))) q (fours-in (x .from .count) (x .fours .now)) ws ss k
 
 abbrev Course : (s : tie.Start Inv-loop μ-loop) → (ws ss : List ℕ) → ℕ → Type 0
 Course s ws ss k =
     let x = s .args in
-    Course-at s (worst (job (x .points .now) (x .triangles .now) (x .kept .now) (x .table .now)) (marked 2 (fours-in (x .from .count) (x .fours .now)) (x .from .mark))) ws ss k
+    Course-at s (worst (job (job-lists (x .points .now) (x .triangles .now) (x .kept .now) (x .table .now))) (marked 2 (fours-in (x .from .count) (x .fours .now)) (x .from .mark))) ws ss k
 
 start-requires : tie.Need-start-requires Inv-loop μ-loop
 start-requires c κs = let f = highest (c .before .before .before .before .before .before .before .before) .whole .filed in (f .few, quals-long f)

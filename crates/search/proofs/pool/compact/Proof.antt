@@ -5,6 +5,7 @@ use Prim.Native.Nat.{_-_, _≤_}
 use native.Mathlib.Omega.{arith}
 use borrow.Author.Needs.{needs}
 use Rattle.laws.specs.Check.{job}
+use Rattle.laws.specs.Lists.{job-lists}
 use Rattle.search.proofs.Compacting.{Compacted, compacted-at, compacted-below, compacted-copy, compacted-filed, compacted-pass, compacted-start}
 use Rattle.search.proofs.Context.{fours-in-length}
 use Rattle.search.proofs.pool.compact.Statement.{statement}
@@ -12,7 +13,7 @@ use Rattle.search.proofs.pool.compact.Tie as tie
 
 abbrev Inv-loop : tie.InvT-loop
 Inv-loop points triangles kept table fours codes quals m fours2₀ codes2₀ quals2₀ mark c₀ k₀ fours2 codes2 quals2 c k =
-    (k ≤ m) × Compacted (job points triangles kept table) fours mark k fours2 codes2 quals2 c
+    (k ≤ m) × Compacted (job (job-lists points triangles kept table)) fours mark k fours2 codes2 quals2 c
 
 abbrev μ-loop : tie.MeasureT-loop
 μ-loop points triangles kept table fours codes quals m fours2₀ codes2₀ quals2₀ mark c₀ k₀ fours2 codes2 quals2 c k =
@@ -21,7 +22,7 @@ abbrev μ-loop : tie.MeasureT-loop
 loop-holds : tie.Need-loop-holds Inv-loop μ-loop
 loop-holds c =
     let s = c .before .before .before .before .before .before .before .before in
-    let a = s .args in (omega arith, compacted-start (job (a .points .now) (a .triangles .now) (a .kept .now) (a .table .now)) (a .fours .now) (a .t9) (s .pre .1) (s .pre .2) (s .pre .3))
+    let a = s .args in (omega arith, compacted-start (job (job-lists (a .points .now) (a .triangles .now) (a .kept .now) (a .table .now))) (a .fours .now) (a .t9) (s .pre .1) (s .pre .2) (s .pre .3))
 
 array-read-x : tie.Need-array-read-x Inv-loop μ-loop
 array-read-x c =

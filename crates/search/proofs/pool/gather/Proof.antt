@@ -5,6 +5,7 @@ use native.Mathlib.Omega.{arith}
 use lib.ListN.{length}
 use Rattle.geometry.specs.Space.{points-in}
 use Rattle.laws.specs.Check.{job}
+use Rattle.laws.specs.Lists.{job-lists}
 use Rattle.search.proofs.Gathering.{measured, Gathering, gathering-start, room-for, gathering-step, gathering-end}
 use Rattle.search.proofs.FourSteps.{Staged, staged-start, staged-within, staged-next, rank, rank-bounded, rank-rises}
 use Rattle.search.proofs.CoverageByNumber.{points-count}
@@ -13,7 +14,7 @@ use Rattle.search.proofs.pool.gather.Tie as tie
 
 abbrev Inv-loop : tie.InvT-loop
 Inv-loop points triangles kept table bound q fours₀ codes₀ quals₀ n f₀ k₀ fours codes quals f k =
-    (n ≡ length (points-in points)) × Staged n f × Gathering (job points triangles kept table) q fours codes quals k f
+    (n ≡ length (points-in points)) × Staged n f × Gathering (job (job-lists points triangles kept table)) q fours codes quals k f
 
 abbrev μ-loop : tie.MeasureT-loop
 μ-loop points triangles kept table bound q fours₀ codes₀ quals₀ n f₀ k₀ fours codes quals f k =
@@ -25,7 +26,7 @@ loop-holds c =
     let a = s .args in
     let e = sym (points-count (a .points .now)) in
     let m = measured (a .points .now) (a .triangles .now) (a .kept .now) (a .table .now) (s .pre .0) in
-    (e, rw e (staged-start (length (points-in (a .points .now))) (m .least)), gathering-start (job (a .points .now) (a .triangles .now) (a .kept .now) (a .table .now)) (a .q) (s .pre .4) (s .pre .5) (s .pre .6))
+    (e, rw e (staged-start (length (points-in (a .points .now))) (m .least)), gathering-start (job (job-lists (a .points .now) (a .triangles .now) (a .kept .now) (a .table .now))) (a .q) (s .pre .4) (s .pre .5) (s .pre .6))
 
 consider-four-requires : tie.Need-consider-four-requires Inv-loop μ-loop
 consider-four-requires c κs =

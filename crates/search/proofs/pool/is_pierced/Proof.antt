@@ -5,6 +5,7 @@ use native.Mathlib.Omega.{arith}
 use lib.ListN.{length}
 use Rattle.geometry.specs.Space.{points-in}
 use Rattle.laws.specs.Check.{job}
+use Rattle.laws.specs.Lists.{job-lists}
 use Rattle.laws.specs.inner.Listed.{edges-from}
 use Rattle.laws.proofs.Basics.Scan.{hit, miss}
 use Rattle.search.specs.Pierce.{pierced}
@@ -14,7 +15,7 @@ use Rattle.search.proofs.pool.is_pierced.Tie as tie
 
 abbrev Inv-loop : tie.InvT-loop
 Inv-loop points triangles kept table f i₀ i-end i =
-    (i ≤ length kept / 2) × (pierced (points-in points) (job points triangles kept table .kept) f ≡ pierced (points-in points) (edges-from kept i) f)
+    (i ≤ length kept / 2) × (pierced (points-in points) (job (job-lists points triangles kept table) .kept) f ≡ pierced (points-in points) (edges-from kept i) f)
 
 abbrev μ-loop : tie.MeasureT-loop
 μ-loop points triangles kept table f i₀ i-end i = length kept / 2 - i

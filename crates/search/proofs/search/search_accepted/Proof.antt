@@ -6,10 +6,11 @@ use native.Mathlib.Omega.{arith}
 use borrow.Author.Needs.{needs, length-unmapped}
 use lib.ListN.{length}
 use Rattle.laws.specs.Check.{job}
+use Rattle.laws.specs.Lists.{job-lists}
 use Rattle.search.specs.Codes.{Bound-flags}
 use Rattle.search.specs.Entry.{Searched}
 use Rattle.search.proofs.RimFlags.{accepted-triangles-below-16, accepted-triangles-few, rim-flags}
-use Rattle.search.proofs.Answers.{from-one, under-all}
+use Rattle.search.proofs.FromThreshold.{from-one, under-all}
 use Rattle.search.proofs.search.search_accepted.Statement.{statement}
 use Rattle.search.proofs.search.search_accepted.Tie as tie
 
@@ -41,7 +42,7 @@ slice-aggregate-search-from-2 : tie.Need-slice-aggregate-search-from-2
 slice-aggregate-search-from-2 c = search needs
 
 -- what every search from a threshold on takes from the tables
-flags : (c : tie.After-named) → let x = c .before .before .before .before .before .before .before .args in Bound-flags (job (x .points .now) (x .triangles .now) (x .kept .now) (x .table .now) .triangles) (c .named .result .flag) × (length (c .named .result .flag) ≡ 4096)
+flags : (c : tie.After-named) → let x = c .before .before .before .before .before .before .before .args in Bound-flags (job (job-lists (x .points .now) (x .triangles .now) (x .kept .now) (x .table .now)) .triangles) (c .named .result .flag) × (length (c .named .result .flag) ≡ 4096)
 flags c =
     let x = c .before .before .before .before .before .before .before .args in
     (rim-flags (x .points .now) (x .triangles .now) (x .kept .now) (x .table .now) (c .before .before .before .rim-codes .ensures .0) (c .named .ensures), length-unmapped ℕ (c .named .result .flag) 4096 (c .named .ok .1 .1 .0 .1 .0 .1))
@@ -98,7 +99,7 @@ returns-3 c =
     let x = c .before .before .before .before .before .before .before .before .before .before .before .before .before .before .before .before .before .before .before .before .before .before .before .before .before .before .args in
     let r = c .before .before .search-from3 in
     let w = c .before .before .before .before .before .before .before .before .before .before .search-from2 .ensures .none-there (c .before .before .before .before .before .before .if2 .left) in
-    subst (λ (a : List ℕ). Searched (job (x .points .now) (x .triangles .now) (x .kept .now) (x .table .now)) (r .result) a (r .last .1 .1 .1 .1 .1 .1 .1 .1 .0)) (w .1) (from-one (r .ensures))
+    subst (λ (a : List ℕ). Searched (job (job-lists (x .points .now) (x .triangles .now) (x .kept .now) (x .table .now))) (r .result) a (r .last .1 .1 .1 .1 .1 .1 .1 .1 .0)) (w .1) (from-one (r .ensures))
 
 pub search-accepted-spec : {M : Type 1} → statement M
 search-accepted-spec =

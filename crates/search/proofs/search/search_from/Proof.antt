@@ -1,9 +1,10 @@
 -- `search::search::search_from` meets its contract: gathered and tried at the threshold, then finished. Assumes nothing.
 use borrow.Author.Needs.{needs}
 use borrow.Author.Tests.{not-true, not-false}
-use Rattle.search.proofs.Answers.{attempt-highest, attempt-under, from-found, from-none}
+use Rattle.search.proofs.FromThreshold.{attempt-highest, attempt-under, from-found, from-none}
 use Rattle.search.proofs.search.search_from.Statement.{statement}
 use Rattle.search.proofs.search.search_from.Tie as tie
+use Rattle.laws.specs.Lists.{job-lists}
 
 slice-aggregate-gather : tie.Need-slice-aggregate-gather
 slice-aggregate-gather c = search needs
@@ -64,7 +65,7 @@ returns-2 c =
     let s = c .before .before .before .before .before .before .before .before .before .before .before .before .before .before .before .before .before .before .before .before .before .before .before .before .before .before .before .before .before .before .before in
     let x = s .args in
     let t = c .before .before .before .before .before .before .before .before .before .before .before .before .try-threshold in
-    from-found (x .points .now) (x .triangles .now) (x .kept .now) (x .table .now) _ (s .pre .0) (t .ensures .witness (not-false (t .result .found) (c .before .before .before .before .before .before .before .if1 .left)) .0) (c .before .before .finish .ensures)
+    from-found (job-lists (x .points .now) (x .triangles .now) (x .kept .now) (x .table .now)) _ (s .pre .0) (t .ensures .witness (not-false (t .result .found) (c .before .before .before .before .before .before .before .if1 .left)) .0) (c .before .before .finish .ensures)
 
 pub search-from-spec : {M : Type 1} → statement M
 search-from-spec =
