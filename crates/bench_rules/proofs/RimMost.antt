@@ -24,7 +24,8 @@ use Rattle.geometry.proofs.Volume.{turned-positive}
 use Rattle.laws.proofs.Order.Sorted.{Well-formed, sorted-law-1}
 use Rattle.laws.proofs.Order.Binomials.{choose-monotone}
 use Rattle.laws.proofs.Order.Places.{first-point-place, count-under}
-use Rattle.laws.proofs.Order.Sort.{Distinct, nil, new, sort, sort-each, sort-length, sort-sorted}
+use Rattle.laws.specs.inner.Sorting.{sort}
+use Rattle.laws.proofs.Order.Sort.{Distinct, nil, new, sort-each, sort-length, sort-sorted}
 use Rattle.bench_rules.proofs.RimTriangles.{Corners, each-corners, is-taken, alike}
 
 -- ---- a triangle's points in order

@@ -6,7 +6,7 @@ ghost use Prim.Native.Nat.{_≤_};
 ghost use lib.ListN.{length, getD};
 ghost use lib.IntN.{negsuc};
 ghost use Rattle.laws.specs.Laws.{choose, place};
-ghost use Rattle.laws.specs.inner.Unmeasured.{Ordered};
+ghost use Rattle.laws.specs.inner.NextFour.{Ordered, Follows};
 
 // How many ways there are to choose k of n: Pascal's triangle, row n, column k.
 pub(crate) fn choose(n: usize, k: usize) -> usize
@@ -54,4 +54,41 @@ pub fn entry(table: &[i32], n: usize, f: Four) -> i32
 {
     let at = place(n, f);
     table[at]
+}
+
+// The four after f in the order of fours; behind the last one the last number is n.
+pub fn next_four(n: usize, f: Four) -> Four
+    requires { ⌜ (n ≤ 16) × Ordered n f ⌝ }
+    ensures { λ r. ⌜ Follows n f r ⌝ }
+{
+    if f.d + 1 < n {
+        return Four {
+            a: f.a,
+            b: f.b,
+            c: f.c,
+            d: f.d + 1,
+        };
+    }
+    if f.c + 2 < n {
+        return Four {
+            a: f.a,
+            b: f.b,
+            c: f.c + 1,
+            d: f.c + 2,
+        };
+    }
+    if f.b + 3 < n {
+        return Four {
+            a: f.a,
+            b: f.b + 1,
+            c: f.b + 2,
+            d: f.b + 3,
+        };
+    }
+    Four {
+        a: f.a + 1,
+        b: f.a + 2,
+        c: f.a + 3,
+        d: f.a + 4,
+    }
 }

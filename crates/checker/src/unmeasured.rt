@@ -9,7 +9,8 @@ ghost use Prim.Native.Nat.{_/_, _<_};
 ghost use lib.ListN.{length};
 ghost use Rattle.laws.specs.Check.{job, solid-unmeasured};
 ghost use Rattle.laws.specs.Lists.{with-table};
-ghost use Rattle.laws.specs.inner.Unmeasured.{Ordered, Tabled, four-unmeasured, any-fourth, any-third, any-second};
+ghost use Rattle.laws.specs.inner.NextFour.{Ordered};
+ghost use Rattle.laws.specs.inner.Unmeasured.{Tabled, four-unmeasured, any-fourth, any-third, any-second};
 
 // Whether the four f is solid and unmeasured.
 fn is_four_unmeasured(points: &[i32], table: &[i32], f: Four) -> bool

@@ -8,6 +8,7 @@ use lib.ListN.{length}
 use lib.IntN.{ℤ}
 use Rattle.laws.specs.Laws.{Job, broken, worst, fours-in}
 use Rattle.laws.specs.Lists.{Lists}
+use Rattle.laws.specs.Alike.{Alike}
 use Rattle.laws.specs.Check.{job, job-refusal}
 use Rattle.judge.specs.declared.judge.Verdict.{Verdict}
 
@@ -22,3 +23,7 @@ Judge-as (suc n) j ls r = (r .number ≡ suc n) × (r .law ≡ 0) × (r .worst �
 
 unfoldable pub Judge-says : Lists → (list : List ℕ) → Verdict → Type 0
 Judge-says l ls r = Judge-as (job-refusal l) (job l) ls r
+
+-- jobs that are alike get the same verdict. Proved in proofs/AlikeVerdict.
+unfoldable pub Alike-judged : Type 0
+Alike-judged = (l m : Lists) → Alike l m → (list : List ℕ) (r : Verdict) → Judge-says l list r → Judge-says m list r

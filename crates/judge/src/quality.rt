@@ -14,7 +14,8 @@ ghost use Rattle.geometry.specs.Space.{points-in, solid};
 ghost use Rattle.laws.specs.Laws.{entry, quality, law-1, law-2, worst};
 ghost use Rattle.laws.specs.Lists.{with-table};
 ghost use Rattle.laws.specs.Check.{job};
-ghost use Rattle.laws.specs.inner.Unmeasured.{Ordered, Tabled};
+ghost use Rattle.laws.specs.inner.NextFour.{Ordered};
+ghost use Rattle.laws.specs.inner.Unmeasured.{Tabled};
 ghost use Rattle.laws.specs.inner.ListedFours.{fours-listed};
 
 // The quality of f by the table, 0 for none.

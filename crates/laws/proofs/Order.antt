@@ -8,4 +8,5 @@ pub mod Sublists
 pub mod Binomials
 pub mod TablePlace
 pub mod Places
+pub mod NextFour
 pub mod Bytes

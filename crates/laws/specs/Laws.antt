@@ -75,9 +75,12 @@ unfoldable pub none-inside : List V3 → Four → List V3 → Bool
 none-inside ps f [] = true
 none-inside ps f (q ∷ qs) = not (inside ps f q) && none-inside ps f qs
 
+abbrev pub interior-empty : List V3 → Four → Bool
+interior-empty ps f = none-inside ps (turned ps f) ps
+
 unfoldable pub law-3 : Job → List Four → Bool
 law-3 j [] = true
-law-3 j (f ∷ fs) = none-inside (j .points) (turned (j .points) f) (j .points) && law-3 j fs
+law-3 j (f ∷ fs) = interior-empty (j .points) f && law-3 j fs
 
 -- LAW 4: outward faces; turning the numbers round changes nothing
 unfoldable pub faces : Four → List Tri

@@ -9,7 +9,7 @@ use lib.ListN.{length, getD, set, take, drop, replicate}
 use lib.IntN.{ℤ}
 use Rattle.geometry.specs.Space.{Z, z, plus, equal, four, D, turned, V3}
 use Rattle.geometry.specs.declared.tetrahedron.Four.{Four}
-use Rattle.laws.specs.Laws.{Job, lawful, worst, Best, list-before, place, choose, rising, bytes, fours-in}
+use Rattle.laws.specs.Laws.{Job, lawful, worst, Best, list-before, place, choose, rising, four-before, bytes, fours-in}
 use Rattle.laws.specs.Lists.{Lists}
 use Rattle.laws.specs.Check.{job, job-refusal}
 
@@ -37,6 +37,11 @@ unfoldable pub Places-right : Type 0
 Places-right =
     (n : ℕ) (f g : Four) → n ≤ 16 → rising f ≡ true → rising g ≡ true → f .d < n → g .d < n →
     (place n f < choose n 4) × (place n f ≡ place n g → f ≡ g)
+
+-- and the table stands in lexicographic order: an earlier four has a lower place
+unfoldable pub Places-rise : Type 0
+Places-rise =
+    (n : ℕ) (f g : Four) → rising f ≡ true → rising g ≡ true → f .d < n → g .d < n → four-before f g ≡ true → place n f < place n g
 
 -- a filling has at most 1,820 tetrahedra, so that its bytes fit the answer
 unfoldable pub Fits : Type 0

@@ -13,7 +13,7 @@ use Rattle.laws.specs.Fours.{from, rest, with-each, all-fours}
 use Rattle.laws.proofs.Basics.Tests.{and-true}
 use Rattle.laws.proofs.Order.TablePlace.{over-none}
 use Rattle.laws.proofs.Order.FourOrder.{four-equal}
-use Rattle.search.specs.Filing.{Follows, next-a, next-b, next-c, next-d}
+use Rattle.laws.specs.inner.NextFour.{Follows, next-a, next-b, next-c, next-d}
 
 -- ---- the step as a function
 after : (n : ℕ) → Four → Four

@@ -14,7 +14,7 @@ use Rattle.bench_rules.specs.Bench.{mesh-fours, nth, parts, pick, member}
 use Rattle.bench_rules.specs.Marks.{marked, entries}
 use Rattle.bench_rules.specs.Sound.{Marks-within}
 use Rattle.bench_rules.proofs.PickedNumbers.{picked-same}
-use Rattle.search.specs.Filing.{copied}
+use Rattle.search.specs.inner.Filing.{copied}
 use Rattle.search.proofs.CoverageByNumber.{nth-bytes}
 use Rattle.bench_rules.proofs.Entries.{entries-none, entries-put-four}
 use Rattle.bench_rules.proofs.PickedInTurn.{pick-taken, pick-passed, pick-few}

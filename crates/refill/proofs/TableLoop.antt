@@ -13,12 +13,11 @@ use Rattle.geometry.specs.declared.tetrahedron.Four.{Four}
 use Rattle.laws.specs.Laws.{choose}
 use Rattle.laws.specs.Fours.{all-fours}
 use Rattle.laws.proofs.Order.Binomials.{choose-monotone}
+use Rattle.laws.specs.inner.NextFour.{Ordered, Follows}
+use Rattle.laws.proofs.Order.NextFour.{staged-next}
 use Rattle.bench_rules.specs.Bench.{cavity-table}
 use Rattle.bench_rules.specs.Marks.{entries}
 use Rattle.bench_rules.proofs.AllPlaces.{all-fours-length}
-use Rattle.search.specs.Tables.{Stage}
-use Rattle.search.specs.Filing.{Follows}
-use Rattle.search.proofs.FourSteps.{staged-next}
 use Rattle.bench_rules.proofs.Entries.{entries-none, entries-put}
 use Rattle.refill.proofs.FourChain.{Ahead, chain-start, chain-next, chain-end}
 
@@ -58,7 +57,7 @@ table-start cs n e h =
     }
 
 module _ {cs : List ℤ} {n : ℕ} {entry : List ℤ} {count : ℕ} {f : Four} (w : Tabled-so-far cs n entry count f) where
-  pub table-stage : f .d < n → Stage n f
+  pub table-stage : f .d < n → Ordered n f
   table-stage h = record { ab = w .ab; bc = w .bc; cd = w .cd; below = h }
 
   pub table-present : any-far cs ≡ false → f .d < n → Present cs f

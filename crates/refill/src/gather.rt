@@ -3,7 +3,7 @@ ghost use mathlib.Core.Path.{_≡_};
 ghost use mathlib.Core.Bool.{not};
 ghost use Prim.Native.Nat.{_+_, _/_, _≤_, _<_};
 ghost use lib.ListN.{length};
-ghost use Rattle.search.specs.Filing.{copied};
+ghost use Rattle.search.specs.inner.Filing.{copied};
 ghost use Rattle.laws.specs.Laws.{bytes};
 ghost use Rattle.laws.specs.Fours.{from};
 ghost use Rattle.bench_rules.specs.Bench.{mesh-fours, parts, pick, member};

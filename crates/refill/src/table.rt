@@ -1,8 +1,8 @@
 // The cavity's table: every four of its points measured, -1 where it is flat. Assumes nothing.
+use checker::table::next_four;
 use geometry::measure::measure_four;
 use geometry::measure::millionths_of;
 use geometry::tetrahedron::Four;
-use search::pool::next_four;
 ghost use mathlib.Core.Path.{_≡_};
 ghost use mathlib.Core.Bool.{false};
 ghost use Prim.Native.Nat.{_+_, _≤_, _<_};

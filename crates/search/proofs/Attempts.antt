@@ -14,15 +14,15 @@ use Rattle.laws.specs.Lists.{job-lists}
 use Rattle.laws.specs.Check.{job, job-refusal}
 use Rattle.laws.specs.inner.Members.{In}
 use Rattle.laws.proofs.Basics.Tests.{contradiction}
-use Rattle.search.specs.Marks.{Covers, marked, marked-from, Extended}
-use Rattle.search.specs.Steps.{Settles}
-use Rattle.search.specs.Tables.{Filed, Whole, Alive-from, Between, Attempted, Highest, Least-set}
+use Rattle.laws.proofs.Order.Bytes.{fours-in-length}
+use Rattle.search.specs.inner.Marks.{Covers, marked, marked-from, Extended}
+use Rattle.search.specs.inner.Steps.{Settles}
+use Rattle.search.specs.inner.Tables.{Filed, Whole, Alive-from, Between, Attempted, Highest, Least-set}
 use Rattle.search.specs.Entry.{in-front, says, Searched}
 use Rattle.search.proofs.Boundary.{boundary}
 use Rattle.search.proofs.Bisection.{Bounds, bounds-gap}
 use Rattle.search.proofs.Numbers.{member-number}
 use Rattle.search.proofs.Compact.{covers-alive}
-use Rattle.search.proofs.Context.{fours-in-length}
 use Rattle.search.proofs.Searched.{searched-best}
 use Rattle.search.proofs.Thresholds.{alive-started, boundary-some, found-from, least-worst, none-from, quality-small, whole-above}
 

@@ -17,8 +17,8 @@ use Rattle.laws.proofs.Faces.Triangles.{Has}
 use Rattle.laws.proofs.Choice.Conditions.{keeps}
 use Rattle.laws.proofs.Faces.Conforming.{law-4-conforming}
 use Rattle.laws.proofs.Faces.Owners.{face-owner}
-use Rattle.search.specs.Part.{Ext}
-use Rattle.search.specs.Marks.{Covers}
+use Rattle.search.specs.inner.Part.{Ext}
+use Rattle.search.specs.inner.Marks.{Covers}
 use Rattle.search.proofs.Boundary.{Boundary}
 use Rattle.search.proofs.Worst.{worst-attained, worst-at-most, worst-bounds-each}
 use Rattle.search.proofs.Candidates.{Candidate, member-is-candidate, worst-positive}

@@ -13,8 +13,8 @@ use Rattle.laws.proofs.Basics.Tests.{contradiction, true-or-false}
 use Rattle.laws.proofs.Basics.Lists.{Each, none, more, Witness, find, any-of-member}
 use Rattle.laws.proofs.Faces.Triangles.{back, reversed-back, has-true, has-of}
 use Rattle.laws.specs.inner.FaceCodes.{face-code, flip-code, Proper}
-use Rattle.search.specs.Part.{reverses}
-use Rattle.search.specs.Codes.{Bound, Bound-flags}
+use Rattle.search.specs.inner.Part.{reverses}
+use Rattle.search.specs.inner.Codes.{Bound, Bound-flags}
 use Rattle.laws.proofs.Faces.FaceCodes.{face-code-back}
 use Rattle.search.proofs.FaceTable.{code-has, has-code}
 

@@ -10,7 +10,7 @@ use lib.Dec.{ltb}
 use lib.ListN.{length}
 use Rattle.geometry.specs.Space.{solid, turned}
 use Rattle.geometry.specs.declared.tetrahedron.Four.{Four}
-use Rattle.laws.specs.Laws.{Job, Tri, tri, rising, entry, quality, none-inside, faces, all-faces, reversed, has, law-2, law-3, lawful, worst}
+use Rattle.laws.specs.Laws.{Job, Tri, tri, rising, entry, quality, interior-empty, faces, all-faces, reversed, has, law-2, law-3, lawful, worst}
 use Rattle.laws.specs.inner.Members.{here, there, In}
 use Rattle.laws.proofs.Basics.Tests.{and-true, and-of, or-false, or-false-of, not-of}
 use Rattle.laws.proofs.Basics.Lists.{Each, none, more, any-of-member, each-at-member}
@@ -19,8 +19,8 @@ use Rattle.laws.proofs.Choice.Conditions.{keeps}
 use Rattle.laws.proofs.Faces.Conforming.{law-4-conforming}
 use Rattle.laws.proofs.Order.Sorted.{Well-formed, law-1-well-formed}
 use Rattle.laws.proofs.Faces.Owners.{owned-face}
-use Rattle.search.specs.Pierce.{pierced}
-use Rattle.search.specs.Part.{reverses, candidate}
+use Rattle.search.specs.inner.Pierce.{pierced}
+use Rattle.search.specs.inner.Part.{reverses, candidate}
 use Rattle.search.proofs.Boundary.{Boundary}
 use Rattle.search.proofs.Worst.{each-bounds-worst}
 use Rattle.search.proofs.KeptEdges.{pierced-never}
@@ -30,7 +30,7 @@ pub record Candidate (j : Job) (f : Four) : Type 0 where
   pub good : Well-formed (length (j .points)) f
   pub firm : solid (j .points) f ≡ true
   pub worth : 0 < quality (entry j f)
-  pub empty : none-inside (j .points) (turned (j .points) f) (j .points) ≡ true
+  pub empty : interior-empty (j .points) f ≡ true
   pub inward : (t : Tri) → Has t (faces (turned (j .points) f)) → has (back t) (j .triangles) ≡ false
   pub unpierced : pierced (j .points) (j .kept) f ≡ false
 
@@ -49,9 +49,9 @@ unfolding candidate
 candidate-true j f h =
     let ps = j .points in
     let fs = faces (turned ps f) in
-    let p = and-true (rising f && ltb (f .d) (length ps)) ((solid ps f && ltb 0 (quality (entry j f))) && (none-inside ps (turned ps f) ps && (not (reverses fs (j .triangles)) && not (pierced ps (j .kept) f)))) h in
-    let q = and-true (solid ps f && ltb 0 (quality (entry j f))) (none-inside ps (turned ps f) ps && (not (reverses fs (j .triangles)) && not (pierced ps (j .kept) f))) (p .1) in
-    let r = and-true (none-inside ps (turned ps f) ps) (not (reverses fs (j .triangles)) && not (pierced ps (j .kept) f)) (q .1) in
+    let p = and-true (rising f && ltb (f .d) (length ps)) ((solid ps f && ltb 0 (quality (entry j f))) && (interior-empty ps f && (not (reverses fs (j .triangles)) && not (pierced ps (j .kept) f)))) h in
+    let q = and-true (solid ps f && ltb 0 (quality (entry j f))) (interior-empty ps f && (not (reverses fs (j .triangles)) && not (pierced ps (j .kept) f))) (p .1) in
+    let r = and-true (interior-empty ps f) (not (reverses fs (j .triangles)) && not (pierced ps (j .kept) f)) (q .1) in
     let w = and-true (not (reverses fs (j .triangles))) (not (pierced ps (j .kept) f)) (r .1) in
     let g = and-true (rising f) (ltb (f .d) (length ps)) (p .0) in
     let s = and-true (solid ps f) (ltb 0 (quality (entry j f))) (q .0) in
@@ -89,12 +89,12 @@ unfolding law-2
 law-2-of j none = refl
 law-2-of j (more {x = f} w e) = and-of (and-of (w .firm) (lt-ltb 0 (quality (entry j f)) (w .worth))) (law-2-of j e)
 
-pub law-3-each : (j : Job) (fs : List Four) → law-3 j fs ≡ true → Each (λ f. none-inside (j .points) (turned (j .points) f) (j .points) ≡ true) fs
+pub law-3-each : (j : Job) (fs : List Four) → law-3 j fs ≡ true → Each (λ f. interior-empty (j .points) f ≡ true) fs
 unfolding law-3
 law-3-each j [] h = none
-law-3-each j (f ∷ fs) h = let p = and-true (none-inside (j .points) (turned (j .points) f) (j .points)) (law-3 j fs) h in more (p .0) (law-3-each j fs (p .1))
+law-3-each j (f ∷ fs) h = let p = and-true (interior-empty (j .points) f) (law-3 j fs) h in more (p .0) (law-3-each j fs (p .1))
 
-pub law-3-of : (j : Job) {fs : List Four} → Each (λ f. none-inside (j .points) (turned (j .points) f) (j .points) ≡ true) fs → law-3 j fs ≡ true
+pub law-3-of : (j : Job) {fs : List Four} → Each (λ f. interior-empty (j .points) f ≡ true) fs → law-3 j fs ≡ true
 unfolding law-3
 law-3-of j none = refl
 law-3-of j (more p e) = and-of p (law-3-of j e)

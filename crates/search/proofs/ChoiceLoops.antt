@@ -8,8 +8,8 @@ use Prim.Native.Nat.{ℕ, _+_, _*_, _<_}
 use native.Mathlib.Omega.{arith}
 use native.Mathlib.Decide.{ℕ-discrete}
 use lib.ListN.{getD}
-use Rattle.search.specs.Codes.{open-code}
-use Rattle.search.specs.Tables.{Goes-on, On-rim, Behind-set}
+use Rattle.search.specs.inner.Codes.{open-code}
+use Rattle.search.specs.inner.Tables.{Goes-on, On-rim, Behind-set}
 use Rattle.search.proofs.OpenCodes.{flip-flip}
 
 module _ {own bound live : List ℕ} where

@@ -14,10 +14,10 @@ use Rattle.laws.specs.Lists.{job-lists}
 use Rattle.laws.specs.Check.{job}
 use Rattle.laws.proofs.Basics.Tests.{and-true, or-true, true-or-false}
 use Rattle.laws.specs.inner.FaceCodes.{face-code, flip-code}
-use Rattle.search.specs.Marks.{Reduced}
-use Rattle.search.specs.Codes.{Bound, Owner, Owner-flags, open-code}
-use Rattle.search.specs.Steps.{Context, Settles}
-use Rattle.search.specs.Tables.{Behind-set, Goes-on, On-rim, Rim}
+use Rattle.search.specs.inner.Marks.{Reduced}
+use Rattle.search.specs.inner.Codes.{Bound, Owner, Owner-flags, open-code}
+use Rattle.search.specs.inner.Steps.{Context, Settles}
+use Rattle.search.specs.inner.Tables.{Behind-set, Goes-on, On-rim, Rim}
 use Rattle.search.proofs.Context.{context-count, settles-hopeless, settles-open}
 use Rattle.search.proofs.RimFlags.{tri-number}
 

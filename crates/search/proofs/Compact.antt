@@ -9,7 +9,7 @@ use Rattle.laws.specs.Laws.{Job}
 use Rattle.laws.specs.inner.Members.{In}
 use Rattle.laws.proofs.Basics.Lists.{each-of-members}
 use Rattle.laws.proofs.Order.Sorted.{sorted-law-1}
-use Rattle.search.specs.Marks.{Pool, Covers, marked, Started, Reduced}
+use Rattle.search.specs.inner.Marks.{Pool, Covers, marked, Started, Reduced}
 use Rattle.search.proofs.Boundary.{Boundary}
 use Rattle.search.proofs.Candidates.{candidate-true}
 use Rattle.search.proofs.Extensions.{extension-start}

@@ -9,13 +9,12 @@ use Rattle.geometry.specs.declared.tetrahedron.Four.{Four}
 use Rattle.laws.specs.Laws.{Job, fours-in}
 use Rattle.laws.specs.Lists.{job-lists}
 use Rattle.laws.specs.Check.{job}
-use Rattle.search.specs.Marks.{nth, marked-from, marked, Pool}
-use Rattle.search.specs.Codes.{Face-table}
-use Rattle.search.specs.Tables.{Qualities, Filed}
-use Rattle.search.specs.Filing.{copied}
+use Rattle.laws.proofs.Order.Bytes.{fours-in-length, fours-in-nth}
+use Rattle.search.specs.inner.Marks.{nth, marked-from, marked, Pool}
+use Rattle.search.specs.inner.Codes.{Face-table}
+use Rattle.search.specs.inner.Tables.{Qualities, Filed}
+use Rattle.search.specs.inner.Filing.{copied}
 use Rattle.search.proofs.Compact.{pool-alive}
-use Rattle.search.proofs.Context.{fours-in-length}
-use Rattle.search.proofs.CoverageByNumber.{nth-bytes}
 use Rattle.search.proofs.Written.{four-of, fours-in-put, faces-copied, qualities-put}
 use Rattle.search.proofs.CopiedInOrder.{marked-one-more, marked-none-more, marked-count}
 
@@ -61,14 +60,14 @@ module _ {j : Job} {fours ms fours2 codes2 quals2 : List ℕ} {k c : ℕ} (w : C
     one-more : fours-in (c + 1) (copied k c fours fours2) ≡ fours-in c fours2 ++ (nth (fours-in m fours) k ∷ [])
     one-more =
         fours-in-put c (getD fours (k * 4) 0) (getD fours (k * 4 + 1) 0) (getD fours (k * 4 + 2) 0) (getD fours (k * 4 + 3) 0) fours2 (omega (arith, w .fours-long, compacted-below))
-        ∙ ap (λ (f : Four). fours-in c fours2 ++ (f ∷ [])) (sym (nth-bytes m fours k l))
+        ∙ ap (λ (f : Four). fours-in c fours2 ++ (f ∷ [])) (sym (fours-in-nth m fours k _ l))
 
     pub compacted-copy :
         getD ms k 0 ≡ 1 → Compacted j fours ms (k + 1) (copied k c fours fours2) (copied k c codes codes2) (set quals2 c (getD quals k 0)) (c + 1)
     compacted-copy h =
         record {
           alive =
-              one-more ∙ ap (λ (f : Four). fours-in c fours2 ++ (f ∷ [])) (nth-bytes m fours k l)
+              one-more ∙ ap (λ (f : Four). fours-in c fours2 ++ (f ∷ [])) (fours-in-nth m fours k _ l)
               ∙ ap (λ (fs : List Four). fs ++ (four-of k fours ∷ [])) (w .alive) ∙ sym (marked-one-more 1 k fours ms h);
           faces =
               subst (λ (fs : List Four). Face-table (j .points) fs (copied k c codes codes2)) (sym one-more)

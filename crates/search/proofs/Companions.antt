@@ -18,12 +18,13 @@ use Rattle.laws.proofs.Basics.Lists.{Each, each-at-member}
 use Rattle.laws.proofs.Faces.Triangles.{has-true, has-of}
 use Rattle.laws.proofs.Choice.Conditions.{accepted}
 use Rattle.laws.proofs.Order.FourOrder.{four-before-asym}
-use Rattle.laws.proofs.Order.Sorted.{Well-formed, Increasing, increasing, law-1-well-formed}
+use Rattle.laws.specs.inner.NextFour.{Ordered}
+use Rattle.laws.proofs.Order.Sorted.{Well-formed, increasing, law-1-well-formed}
 use Rattle.laws.specs.inner.FaceCodes.{face-code, Proper}
-use Rattle.search.specs.Part.{shares, compatible}
-use Rattle.search.specs.Marks.{nth}
-use Rattle.search.specs.Codes.{Owns}
-use Rattle.search.specs.Steps.{Context}
+use Rattle.search.specs.inner.Part.{shares, compatible}
+use Rattle.search.specs.inner.Marks.{nth}
+use Rattle.search.specs.inner.Codes.{Owns}
+use Rattle.search.specs.inner.Steps.{Context}
 use Rattle.search.proofs.Pairs.{shares-false-of, compatible-true}
 use Rattle.search.proofs.Numbers.{nth-member, nth-before}
 use Rattle.search.proofs.FaceTable.{has-owns, owns-has}
@@ -69,9 +70,9 @@ module _ {ps : List ℤ} {ts es : List ℕ} {qs : List ℤ} {fours codes bound :
 
   -- ---- what the functions on two candidates ask for
   pub member-present : (k : ℕ) → k < m → {f : Four} → f ≡ nth (fours-in m fours) k → Present ps f
-  member-present k l e = subst (Present ps) (sym e) (go (subst (λ (ws : List V3). Increasing (length ws) (nth cs k)) (points-of-job ps ts es qs) (increasing (length P) (nth cs k) (each-at-member good (nth-member cs k (within l))))))
+  member-present k l e = subst (Present ps) (sym e) (go (subst (λ (ws : List V3). Ordered (length ws) (nth cs k)) (points-of-job ps ts es qs) (increasing (length P) (nth cs k) (each-at-member good (nth-member cs k (within l))))))
     where
-      go : Increasing (length (points-in ps)) (nth cs k) → Present ps (nth cs k)
+      go : Ordered (length (points-in ps)) (nth cs k) → Present ps (nth cs k)
       go u =
           record {
             near = accepted (job-lists ps ts es qs) (x .accepted) .near;

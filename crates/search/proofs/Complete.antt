@@ -18,7 +18,7 @@ use Rattle.laws.proofs.Order.Sorted.{Sorted, start, next, sorted-law-1}
 use Rattle.laws.proofs.Order.Sort.{Distinct, nil, new}
 use Rattle.laws.proofs.Faces.Owners.{face-owner}
 use Rattle.laws.proofs.Faces.ProperFaces.{distinct-corners, turned-distinct-corners}
-use Rattle.search.specs.Part.{Together}
+use Rattle.search.specs.inner.Part.{Together}
 use Rattle.search.proofs.Faces.{faces-once}
 use Rattle.search.proofs.Candidates.{Candidate, law-2-of, law-3-of}
 use Rattle.search.proofs.Pairs.{compatible-true, law-5-of}

@@ -19,8 +19,8 @@ use Rattle.laws.specs.Lists.{job-lists}
 use Rattle.laws.specs.Check.{job}
 use Rattle.laws.proofs.Basics.Tests.{contradiction}
 use Rattle.laws.specs.inner.FaceCodes.{face-code}
-use Rattle.search.specs.Part.{candidate}
-use Rattle.search.specs.Filing.{put-four, put-faces, Considered, filed}
+use Rattle.search.specs.inner.Part.{candidate}
+use Rattle.search.specs.inner.Filing.{put-four, put-faces, Considered, filed}
 
 -- ---- a signed number that is above 0
 not-positive : (v : ℤ) → leZ v (pos 0) ≡ true → quality v ≡ 0

@@ -20,24 +20,20 @@ use Rattle.laws.proofs.Choice.Conditions.{accepted}
 use Rattle.laws.proofs.Order.Sorted.{Sorted, Well-formed, law-1-well-formed}
 use Rattle.laws.specs.inner.FaceCodes.{flip-code, Proper}
 use Rattle.laws.proofs.Faces.ProperFaces.{boundary-proper}
-use Rattle.search.specs.Part.{open-face}
-use Rattle.search.specs.Marks.{nth, marked, live, Fills, Placed, Reduced, Extended, Cornered}
-use Rattle.search.specs.Codes.{Owns, Owner-flags, open-code}
-use Rattle.search.specs.Steps.{Context, Ready, Open-at, Settles}
+use Rattle.search.specs.inner.Part.{open-face}
+use Rattle.search.specs.inner.Marks.{nth, marked, live, Fills, Placed, Reduced, Extended, Cornered}
+use Rattle.search.specs.inner.Codes.{Owns, Owner-flags, open-code}
+use Rattle.search.specs.inner.Steps.{Context, Ready, Open-at, Settles}
 use Rattle.search.proofs.Boundary.{Boundary, boundary}
 use Rattle.search.proofs.Coverage.{law-6-true, law-7-true}
 use Rattle.search.proofs.Numbers.{pool-sorted}
 use Rattle.search.proofs.Setting.{cornered, placed-falls, placed-fit}
 use Rattle.search.proofs.Reduction.{found-marks, none-closed, none-face, reduced-drop, reduced-falls, reduced-fit, reduced-set, reduced-trans}
 use Rattle.laws.proofs.Faces.FaceCodes.{face-code-below}
+use Rattle.laws.proofs.Order.Bytes.{fours-in-length}
 use Rattle.search.proofs.FaceTable.{has-owns}
 use Rattle.search.proofs.OpenCodes.{face-proper, none-open, none-open-code, open-at, useless-by-code}
 use Rattle.search.proofs.FaceLoop.{Tried}
-
-pub fours-in-length : (m : ℕ) (bs : List ℕ) → length (fours-in m bs) ≡ m
-unfolding fours-in
-fours-in-length zero bs = refl
-fours-in-length (suc m) bs = ap suc (fours-in-length m (drop 4 bs))
 
 module _ {ps : List ℤ} {ts es : List ℕ} {qs : List ℤ} {fours codes bound : List ℕ} {m : ℕ} (x : Context ps ts es qs fours codes bound m) where
   pub context-sorted : Sorted (fours-in m fours)

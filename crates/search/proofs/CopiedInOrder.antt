@@ -11,11 +11,10 @@ use lib.Seq.{sets, sets-eq, take-at, drop-append-add, drop-drop}
 use Rattle.geometry.specs.Space.{four}
 use Rattle.geometry.specs.declared.tetrahedron.Four.{Four}
 use Rattle.laws.specs.Laws.{bytes, fours-in}
-use Rattle.laws.proofs.Order.Bytes.{length-bytes}
-use Rattle.search.specs.Marks.{marked-from, marked}
+use Rattle.laws.proofs.Order.Bytes.{length-bytes, bytes-append, fours-in-length}
+use Rattle.search.specs.inner.Marks.{marked-from, marked}
 use Rattle.search.specs.Entry.{in-front}
-use Rattle.search.specs.Filing.{put-four, copied}
-use Rattle.search.proofs.Context.{fours-in-length}
+use Rattle.search.specs.inner.Filing.{put-four, copied}
 use Rattle.search.proofs.Written.{four-of, fours-in-more}
 
 -- ---- the candidates with a mark, one more passed
@@ -62,11 +61,6 @@ unfolding marked
 marked-count v k bs ms = omega (arith, marked-from-count v 0 (fours-in k bs) ms, fours-in-length k bs)
 
 -- ---- bytes in front of what was there
-bytes-append : (fs gs : List Four) → bytes (fs ++ gs) ≡ bytes fs ++ bytes gs
-unfolding bytes
-bytes-append [] gs = refl
-bytes-append (f ∷ fs) gs = ap (λ (l : List ℕ). f .a ∷ f .b ∷ f .c ∷ f .d ∷ l) (bytes-append fs gs)
-
 put-sets : (k a b c d : ℕ) (xs : List ℕ) → put-four k a b c d xs ≡ sets xs (k * 4) (a ∷ b ∷ c ∷ d ∷ [])
 put-sets k a b c d xs =
     let p : k * 4 + 1 ≡ suc (k * 4) = omega arith in

@@ -13,11 +13,11 @@ use Rattle.laws.specs.Lists.{job-lists}
 use Rattle.laws.specs.Check.{job, edges-in}
 use Rattle.laws.specs.inner.Members.{Any, here, there}
 use Rattle.laws.proofs.Basics.Tests.{and-of, and-true, true-or-false}
-use Rattle.search.specs.Marks.{nth, marked, Fills}
-use Rattle.search.specs.Tables.{All-below, Link, Links-are, All-linked, Unlinked, point, edge}
+use Rattle.laws.proofs.Order.Bytes.{fours-in-length}
+use Rattle.search.specs.inner.Marks.{nth, marked, Fills}
+use Rattle.search.specs.inner.Tables.{All-below, Link, Links-are, All-linked, Unlinked, point, edge}
 use Rattle.search.proofs.Coverage.{On-edge}
 use Rattle.search.proofs.Reduction.{none-edge, none-point}
-use Rattle.search.proofs.Context.{fours-in-length}
 use Rattle.search.proofs.CoverageByNumber.{corner-none, corner-number, covered-all, edge-at, edge-at-drop, edge-none, edge-number, points-count, uncovered-edge, uncovered-point}
 
 edge-stands : (n : ℕ) (es : List ℕ) (i : ℕ) → i < n → Any (λ (e : Edge). edge-at es i ≡ e) (edges-in n es)

@@ -17,7 +17,8 @@ use Rattle.laws.specs.Lists.{job-lists}
 use Rattle.laws.specs.Check.{job, edges-in}
 use Rattle.laws.proofs.Basics.Tests.{contradiction, and-true, and-of, true-or-false}
 use Rattle.laws.proofs.Basics.Lists.{find, any-of-member}
-use Rattle.search.specs.Marks.{nth, marked}
+use Rattle.laws.proofs.Order.Bytes.{fours-in-nth}
+use Rattle.search.specs.inner.Marks.{nth, marked}
 use Rattle.search.proofs.Coverage.{On-edge, holds-edge-of, holds-edge-true, is-corner-of, is-corner-true, law-6-of, law-6-true}
 use Rattle.search.proofs.Numbers.{marked-number, number-marked}
 
@@ -29,31 +30,13 @@ points-count (x ∷ []) = refl
 points-count (x ∷ y ∷ []) = refl
 points-count (x ∷ y ∷ w ∷ ps) = let e = points-count ps in omega arith
 
-pub nth-bytes :
-    (m : ℕ) (bs : List ℕ) (k : ℕ) → k < m → nth (fours-in m bs) k ≡ four (getD bs (k * 4) 0) (getD bs (k * 4 + 1) 0) (getD bs (k * 4 + 2) 0) (getD bs (k * 4 + 3) 0)
-unfolding fours-in
-nth-bytes zero bs k h = absurd (omega arith)
-nth-bytes (suc m) bs zero h = refl
-nth-bytes (suc m) bs (suc k) h = nth-bytes m (drop 4 bs) k (omega arith) ∙ shifted
-  where
-    at : (i : ℕ) → getD (drop 4 bs) (k * 4 + i) 0 ≡ getD bs (suc k * 4 + i) 0
-    at i = getD-drop 4 bs (k * 4 + i) 0 ∙ ap (λ (n : ℕ). getD bs n 0) (omega arith)
-
-    at-0 : getD (drop 4 bs) (k * 4) 0 ≡ getD bs (suc k * 4) 0
-    at-0 = getD-drop 4 bs (k * 4) 0 ∙ ap (λ (n : ℕ). getD bs n 0) (omega arith)
-
-    shifted :
-        four (getD (drop 4 bs) (k * 4) 0) (getD (drop 4 bs) (k * 4 + 1) 0) (getD (drop 4 bs) (k * 4 + 2) 0) (getD (drop 4 bs) (k * 4 + 3) 0)
-        ≡ four (getD bs (suc k * 4) 0) (getD bs (suc k * 4 + 1) 0) (getD bs (suc k * 4 + 2) 0) (getD bs (suc k * 4 + 3) 0)
-    shifted = cc (at-0, at 1, at 2, at 3)
-
 -- ---- the corners of a candidate by its bytes
 module _ (m : ℕ) (bs : List ℕ) (k : ℕ) (l : k < m) (p : ℕ) where
   corner-bytes :
       corner-of p (nth (fours-in m bs) k)
       ≡ ((eqb p (getD bs (k * 4) 0) || eqb p (getD bs (k * 4 + 1) 0)) || (eqb p (getD bs (k * 4 + 2) 0) || eqb p (getD bs (k * 4 + 3) 0)))
   unfolding corner-of four
-  corner-bytes = ap (corner-of p) (nth-bytes m bs k l)
+  corner-bytes = ap (corner-of p) (fours-in-nth m bs k _ l)
 
   pub on-a : p ≡ getD bs (k * 4) 0 → corner-of p (nth (fours-in m bs) k) ≡ true
   on-a e = corner-bytes ∙ rw (eq-eqb p (getD bs (k * 4) 0) e) refl

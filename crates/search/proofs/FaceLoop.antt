@@ -9,8 +9,8 @@ use lib.ListN.{length, getD, set}
 use lib.Seq.{getD-set-same}
 use Rattle.geometry.specs.declared.tetrahedron.Four.{Four}
 use Rattle.laws.specs.Laws.{Job}
-use Rattle.search.specs.Marks.{Reduced, Cornered}
-use Rattle.search.specs.Codes.{Owns}
+use Rattle.search.specs.inner.Marks.{Reduced, Cornered}
+use Rattle.search.specs.inner.Codes.{Owns}
 use Rattle.search.proofs.Numbers.{mark-within}
 use Rattle.search.proofs.Reduction.{reduced-failed, reduced-refl, reduced-trans}
 

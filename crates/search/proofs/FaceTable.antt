@@ -15,8 +15,8 @@ use Rattle.laws.proofs.Order.Sorted.{Well-formed, increasing}
 use Rattle.laws.proofs.Faces.Owners.{face-owner, owned-face}
 use Rattle.laws.specs.inner.FaceCodes.{face-code, Proper}
 use Rattle.laws.proofs.Faces.ProperFaces.{faces-proper}
-use Rattle.search.specs.Marks.{nth, marked}
-use Rattle.search.specs.Codes.{Face-table, Owns, Owner}
+use Rattle.search.specs.inner.Marks.{nth, marked}
+use Rattle.search.specs.inner.Codes.{Face-table, Owns, Owner}
 use Rattle.search.proofs.Numbers.{marked-number, nth-member, number-marked}
 use Rattle.laws.proofs.Faces.FaceCodes.{face-code-injective, face-code-same}
 

@@ -11,7 +11,7 @@ use Rattle.geometry.specs.declared.tetrahedron.Four.{Four}
 use Rattle.laws.specs.Laws.{Job, four-before, worst}
 use Rattle.laws.specs.inner.Members.{In}
 use Rattle.laws.proofs.Order.Sorted.{Sorted}
-use Rattle.search.specs.Marks.{nth, marked, Placed, Reduced, Cornered}
+use Rattle.search.specs.inner.Marks.{nth, marked, Placed, Reduced, Cornered}
 use Rattle.search.proofs.Boundary.{Boundary}
 use Rattle.search.proofs.Extensions.{Beside, extension-moved}
 use Rattle.search.proofs.FirstList.{First, Least, first-commit, first-found, first-moved}

@@ -16,7 +16,7 @@ use Rattle.laws.proofs.Order.FourOrder.{four-before-asym, four-before-trans, fo
 use Rattle.laws.proofs.Order.ListOrder.{list-before-head, list-before-tail, list-before-trans}
 use Rattle.laws.proofs.Order.Sorted.{member-or-not, Sorted, next, law-1-sorted}
 use Rattle.laws.proofs.Volume.Rigidity.{law-2-solid, closed-part-has-all}
-use Rattle.search.specs.Part.{Ext}
+use Rattle.search.specs.inner.Part.{Ext}
 use Rattle.search.proofs.Boundary.{Boundary}
 use Rattle.search.proofs.Extensions.{Beside, From, Without, extension-drop, extension-set, extension-start, extension-start-back, subset-filling-equal, unset-is-alive}
 

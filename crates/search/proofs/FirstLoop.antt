@@ -13,9 +13,10 @@ use Rattle.geometry.specs.declared.tetrahedron.Four.{Four}
 use Rattle.laws.specs.Laws.{Job, fours-in, worst, Best}
 use Rattle.laws.specs.Lists.{job-lists}
 use Rattle.laws.specs.Check.{job}
-use Rattle.search.specs.Marks.{marked, Fills, Placed, Reduced, Cornered}
-use Rattle.search.specs.Steps.{Context, Ready, Settles}
-use Rattle.search.specs.Tables.{Alive-from, Highest}
+use Rattle.laws.proofs.Order.Bytes.{fours-in-length}
+use Rattle.search.specs.inner.Marks.{marked, Fills, Placed, Reduced, Cornered}
+use Rattle.search.specs.inner.Steps.{Context, Ready, Settles}
+use Rattle.search.specs.inner.Tables.{Alive-from, Highest}
 use Rattle.search.specs.declared.marks.Marks.{Marks}
 use Rattle.search.proofs.Extensions.{subset-filling-equal}
 use Rattle.search.proofs.FirstList.{first-best}
@@ -24,7 +25,7 @@ use Rattle.search.proofs.Numbers.{mark-of, mark-within, number-marked}
 use Rattle.search.proofs.Setting.{fills-placed, placed-fewer, placed-own}
 use Rattle.search.proofs.Reduction.{reduced-back, reduced-failed}
 use Rattle.search.proofs.FirstByNumber.{First-marks, first-placed, first-reduced, first-tried}
-use Rattle.search.proofs.Context.{fours-in-length, context-boundary, context-count, context-sorted, ready-placed, ready-reduced}
+use Rattle.search.proofs.Context.{context-boundary, context-count, context-sorted, ready-placed, ready-reduced}
 use Rattle.search.proofs.Searched.{best-passed, first-begin, found-worth}
 use Rattle.search.proofs.Thresholds.{alive-ready, alive-started}
 use Rattle.search.proofs.Attempts.{highest-bounds}

@@ -7,7 +7,7 @@ use native.Mathlib.Omega.{arith}
 use native.Mathlib.Decide.{ℕ-discrete}
 use lib.ListN.{length, getD, set, replicate}
 use lib.Seq.{getD-set-same, getD-set-other}
-use Rattle.search.specs.Codes.{Owner, Owner-flags}
+use Rattle.search.specs.inner.Codes.{Owner, Owner-flags}
 
 -- ---- the first n candidates passed: none, one more with another mark, one more with this mark
 pub flags-none : {table marks : List ℕ} {v : ℕ} (flags : List ℕ) → ((c : ℕ) → getD flags c 0 ≡ 0) → Owner-flags 0 table marks v flags

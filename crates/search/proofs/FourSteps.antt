@@ -7,53 +7,16 @@ use native.Mathlib.Decide.{decLt}
 use lib.ListN.{length}
 use Rattle.geometry.specs.declared.tetrahedron.Four.{Four}
 use Rattle.laws.specs.Laws.{Job}
-use Rattle.laws.specs.inner.Unmeasured.{Ordered}
+use Rattle.laws.specs.inner.NextFour.{Ordered, Follows, next-a, next-b, next-c, next-d}
 use Rattle.laws.proofs.Order.Sorted.{Well-formed, increasing}
-use Rattle.search.specs.Tables.{Stage}
-use Rattle.search.specs.Filing.{Follows, next-a, next-b, next-c, next-d}
+use Rattle.laws.proofs.Order.NextFour.{Staged}
 use Rattle.search.proofs.Gather.{Before, at-a, at-b, at-c, at-d, four-at, roll-a, roll-b, roll-c, Gathered, gathered-move}
-
--- ---- the places of the loop: fours of increasing numbers below n, and one past the last
-pub record Staged (n : ℕ) (f : Four) : Type 0 where
-  pub ab : f .a < f .b
-  pub bc : f .b < f .c
-  pub cd : f .c < f .d
-  pub high : f .d ≤ n
-  pub last : n ≤ f .d → n ≤ f .a + 3
-
-pub staged-start : (n : ℕ) → 4 ≤ n → Staged n (four-at 0 1 2 3)
-staged-start n h = record { ab = omega arith; bc = omega arith; cd = omega arith; high = omega arith; last = λ l. absurd (omega arith) }
-
-pub staged-within : {n : ℕ} {f : Four} → Staged n f → f .d < n → Stage n f
-staged-within s h = record { ab = s .ab; bc = s .bc; cd = s .cd; below = h }
-
-pub stage-ordered : {n : ℕ} {f : Four} → Stage n f → Ordered n f
-stage-ordered s = record { ab = s .ab; bc = s .bc; cd = s .cd; dn = s .below }
-
-pub staged-next : {n : ℕ} {f g : Four} → Stage n f → Follows n f g → Staged n g
-staged-next s (next-d l) = record { ab = s .ab; bc = s .bc; cd = omega arith; high = omega arith; last = λ h. absurd (omega arith) }
-staged-next s (next-c k l) = record { ab = s .ab; bc = omega arith; cd = omega arith; high = omega arith; last = λ h. absurd (omega arith) }
-staged-next s (next-b j k l) = record { ab = omega arith; bc = omega arith; cd = omega arith; high = omega arith; last = λ h. absurd (omega arith) }
-staged-next s (next-a j k l) = record { ab = omega arith; bc = omega arith; cd = omega arith; high = omega arith; last = λ h. omega arith }
-
--- ---- the measure: what is left below the numbers read as digits
-abbrev pub rank : Four → ℕ
-rank f = f .a * 8000 + f .b * 400 + f .c * 20 + f .d
-
-pub rank-bounded : {n : ℕ} {f : Four} → n ≤ 16 → Staged n f → rank f < 160000
-rank-bounded h s = omega arith
-
-pub rank-rises : {n : ℕ} {f g : Four} → n ≤ 16 → Stage n f → Follows n f g → rank f < rank g
-rank-rises h s (next-d l) = omega arith
-rank-rises h s (next-c k l) = omega arith
-rank-rises h s (next-b j k l) = omega arith
-rank-rises h s (next-a j k l) = omega arith
 
 -- ---- no four of present points between f and the one that follows
 abbrev pub after : Four → Four
 after f = four-at (f .a) (f .b) (f .c) (f .d + 1)
 
-follows-later : {n : ℕ} {f h : Four} → Stage n f → Follows n f h → (g : Four) → Before g (after f) → Before g h
+follows-later : {n : ℕ} {f h : Four} → Ordered n f → Follows n f h → (g : Four) → Before g (after f) → Before g h
 follows-later s (next-d l) g b = b
 follows-later s (next-c k l) g (at-a x) = at-a x
 follows-later s (next-c k l) g (at-b p x) = at-b p x
@@ -90,7 +53,7 @@ module _ (n : ℕ) (g : Four) (good : Well-formed n g) where
   close-b a b e (at-c p q l) = let u = increasing n g good in absurd (omega arith)
   close-b a b e (at-d p q r l) = let u = increasing n g good in absurd (omega arith)
 
-follows-next : {n : ℕ} {f h : Four} → Stage n f → Follows n f h → (g : Four) → Well-formed n g → Before g h → Before g (after f)
+follows-next : {n : ℕ} {f h : Four} → Ordered n f → Follows n f h → (g : Four) → Well-formed n g → Before g h → Before g (after f)
 follows-next s (next-d l) g w b = b
 follows-next {n} {f} s (next-c k l) g w b =
     let e : n ≡ f .d + 1 = omega arith in subst (λ (d : ℕ). Before g (four-at (f .a) (f .b) (f .c) d)) e (roll-c n g w (f .a) (f .b) (f .c) b)
@@ -104,7 +67,7 @@ follows-next {n} {f} s (next-a j k l) g w b =
 
 -- ---- what has been gathered, at the next place and at the end
 pub gathered-next :
-    {j : Job} {q : ℕ} {cs : List Four} {f h : Four} → Stage (length (j .points)) f → Follows (length (j .points)) f h → Gathered j q cs (after f) → Gathered j q cs h
+    {j : Job} {q : ℕ} {cs : List Four} {f h : Four} → Ordered (length (j .points)) f → Follows (length (j .points)) f h → Gathered j q cs (after f) → Gathered j q cs h
 gathered-next s w g = gathered-move (follows-later s w) (follows-next s w) g
 
 pub gathered-end :

@@ -8,13 +8,14 @@ use native.Mathlib.Decide.{ℕ-discrete}
 use native.Mathlib.Omega.{arith}
 use Rattle.geometry.specs.declared.tetrahedron.Four.{Four}
 use Rattle.laws.specs.Laws.{Job, fours-in, lawful, worst}
-use Rattle.laws.specs.Lists.{job-lists}
+use Rattle.laws.specs.Lists.{Lists, job-lists}
 use Rattle.laws.specs.Check.{job, job-refusal}
 use Rattle.laws.specs.Promise.{Best-there}
 use Rattle.laws.proofs.Choice.Promises.{best-there}
-use Rattle.search.specs.Marks.{marked}
-use Rattle.search.specs.Tables.{Attempted, Highest}
-use Rattle.search.specs.Entry.{says, Under, Searched, Searched-from}
+use Rattle.search.specs.inner.Marks.{marked}
+use Rattle.search.specs.inner.Tables.{Attempted, Highest}
+use Rattle.search.specs.Entry.{says, Searched}
+use Rattle.search.specs.inner.Threshold.{Under, Searched-from}
 use Rattle.search.specs.declared.search.Found.{Found}
 use Rattle.search.proofs.Worst.{worst-at-most}
 use Rattle.search.proofs.Searched.{searched-none}
@@ -29,11 +30,11 @@ from-none a u = record { found = λ e. absurd (omega arith); none-there = λ n. 
 
 -- where there is a lawful filling there is a best one, and the answer is 0
 pub from-found :
-    (ps : List ℤ) (ts es : List ℕ) (qs : List ℤ) {low : ℕ} {r : Found} {a b : List ℕ} (fs : List Four) → job-refusal (job-lists ps ts es qs) ≡ 0 → lawful (job (job-lists ps ts es qs)) fs ≡ true →
-    Searched (job (job-lists ps ts es qs)) r a b → Searched-from (job (job-lists ps ts es qs)) low r a b
+    (l : Lists) {low : ℕ} {r : Found} {a b : List ℕ} (fs : List Four) → job-refusal l ≡ 0 → lawful (job l) fs ≡ true → Searched (job l) r a b →
+    Searched-from (job l) low r a b
 unfolding says Best-there
-from-found (job-lists ps ts es qs) fs h l s =
-    let g = best-there (job-lists ps ts es qs) fs h l in record { found = λ e. s; none-there = λ n. absurd (n (s .found (g .0) (g .1) .0 .0)) }
+from-found l fs h k s =
+    let g = best-there l fs h k in record { found = λ e. s; none-there = λ n. absurd (n (s .found (g .0) (g .1) .0 .0)) }
 
 -- from 1 on that is every lawful filling
 pub from-one : {j : Job} {r : Found} {a b : List ℕ} → Searched-from j 1 r a b → Searched j r a b

@@ -16,8 +16,8 @@ use Rattle.laws.proofs.Basics.Tests.{and-true, and-of, or-true, or-left, or-rig
 use Rattle.laws.proofs.Basics.Lists.{Each, none, more, any-of-nil, any-append-left, any-append-right, any-append-cases, each-at-member, each-of-members}
 use Rattle.laws.proofs.Order.FourOrder.{four-equal}
 use Rattle.laws.proofs.Order.Sorted.{Sorted, start, next, Well-formed, increasing, sorted-law-1}
-use Rattle.search.specs.Part.{candidate}
-use Rattle.search.specs.Marks.{Pool, Covers}
+use Rattle.search.specs.inner.Part.{candidate}
+use Rattle.search.specs.inner.Marks.{Pool, Covers}
 use Rattle.search.proofs.Boundary.{Boundary}
 use Rattle.search.proofs.Worst.{worst-bounds-each}
 use Rattle.search.proofs.Candidates.{candidate-true, candidate-of, member-is-candidate}

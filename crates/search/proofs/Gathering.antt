@@ -19,15 +19,17 @@ use Rattle.laws.proofs.Basics.Lists.{each-of-members}
 use Rattle.laws.proofs.Choice.Conditions.{accepted}
 use Rattle.laws.proofs.Order.Places.{at-most-1820}
 use Rattle.laws.proofs.Order.Sorted.{sorted-law-1}
-use Rattle.search.specs.Part.{candidate}
-use Rattle.search.specs.Codes.{Face-table}
-use Rattle.search.specs.Tables.{Stage, Qualities, Whole}
-use Rattle.search.specs.Filing.{put-four, put-faces, Follows, Considered, passed, filed}
+use Rattle.laws.proofs.Order.Bytes.{fours-in-length}
+use Rattle.laws.specs.inner.NextFour.{Ordered, Follows}
+use Rattle.laws.proofs.Order.NextFour.{Staged}
+use Rattle.search.specs.inner.Part.{candidate}
+use Rattle.search.specs.inner.Codes.{Face-table}
+use Rattle.search.specs.inner.Tables.{Qualities, Whole}
+use Rattle.search.specs.inner.Filing.{put-four, put-faces, Considered, passed, filed}
 use Rattle.search.proofs.Boundary.{boundary}
 use Rattle.search.proofs.Candidates.{candidate-true}
-use Rattle.search.proofs.Context.{fours-in-length}
 use Rattle.search.proofs.Gather.{four-at, Gathered, gathered-start, gathered-skip, gathered-add, gathered-pool, gathered-covers}
-use Rattle.search.proofs.FourSteps.{Staged, after, gathered-next, gathered-end}
+use Rattle.search.proofs.FourSteps.{after, gathered-next, gathered-end}
 use Rattle.search.proofs.Written.{put-length, fours-in-put, faces-put, qualities-put, length-more}
 
 -- ---- what a job that is not refused says of its points and its table
@@ -44,11 +46,11 @@ measured ps ts es qs h =
     let s = and-true (leb 4 n) (leb n 16) (and-true (eqb (length ps % 3) 0) (leb 4 n && leb n 16) (a .shape) .1) in
     record { least = leb-true 4 n (s .0); most = leb-true n 16 (s .1); table = eqb-true (length qs) (choose n 4) (a .table-shape) }
 
-pub stage-present : (ps : List ℤ) (ts es : List ℕ) (qs : List ℤ) (f : Four) → job-refusal (job-lists ps ts es qs) ≡ 0 → Stage (length (points-in ps)) f → Present ps f
+pub stage-present : (ps : List ℤ) (ts es : List ℕ) (qs : List ℤ) (f : Four) → job-refusal (job-lists ps ts es qs) ≡ 0 → Ordered (length (points-in ps)) f → Present ps f
 stage-present ps ts es qs f h s =
-    record { near = accepted (job-lists ps ts es qs) h .near; a = omega arith; b = omega arith; c = omega arith; d = s .below }
+    record { near = accepted (job-lists ps ts es qs) h .near; a = omega arith; b = omega arith; c = omega arith; d = s .dn }
 
-pub stage-small : {n : ℕ} {f : Four} → n ≤ 16 → Stage n f → (f .a < 16) × (f .b < 16) × (f .c < 16) × (f .d < 16)
+pub stage-small : {n : ℕ} {f : Four} → n ≤ 16 → Ordered n f → (f .a < 16) × (f .b < 16) × (f .c < 16) × (f .d < 16)
 stage-small h s = (omega arith, omega arith, omega arith, omega arith)
 
 -- ---- the tables at the place f
@@ -120,7 +122,7 @@ gathering-on {j} {q} {fours} {codes} {quals} {k = k} {f = f} h w (filed y) =
     more l = unfold four in fours-in-put k (f .a) (f .b) (f .c) (f .d) fours (omega (arith, w .fours-long))
 
 pub gathering-next :
-    {j : Job} {q : ℕ} {fours codes quals : List ℕ} {k : ℕ} {f h : Four} → Stage (length (j .points)) f → Follows (length (j .points)) f h →
+    {j : Job} {q : ℕ} {fours codes quals : List ℕ} {k : ℕ} {f h : Four} → Ordered (length (j .points)) f → Follows (length (j .points)) f h →
     Gathering j q fours codes quals k (after f) → Gathering j q fours codes quals k h
 gathering-next s w g =
     record {
@@ -142,11 +144,11 @@ module _ (ps : List ℤ) (ts es : List ℕ) (qs : List ℤ) where
 
   module _ {n : ℕ} (points : n ≡ length (points-in ps)) where
     pub gathering-step :
-        {q : ℕ} {fours codes quals fours2 codes2 quals2 : List ℕ} {k r : ℕ} {f h : Four} → length (points-in ps) ≤ 16 → Stage n f → Gathering (job (job-lists ps ts es qs)) q fours codes quals k f →
+        {q : ℕ} {fours codes quals fours2 codes2 quals2 : List ℕ} {k r : ℕ} {f h : Four} → length (points-in ps) ≤ 16 → Ordered n f → Gathering (job (job-lists ps ts es qs)) q fours codes quals k f →
         Considered (job (job-lists ps ts es qs)) q f fours codes quals k fours2 codes2 quals2 r → Follows n f h → Gathering (job (job-lists ps ts es qs)) q fours2 codes2 quals2 r h
     unfolding job
     gathering-step {f = f} {h = h} few s w d g =
-        gathering-next (subst (λ (m : ℕ). Stage m f) points s) (subst (λ (m : ℕ). Follows m f h) points g) (gathering-on few w d)
+        gathering-next (subst (λ (m : ℕ). Ordered m f) points s) (subst (λ (m : ℕ). Follows m f h) points g) (gathering-on few w d)
 
     -- all passed
     pub gathering-end :

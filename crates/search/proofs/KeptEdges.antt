@@ -13,7 +13,7 @@ use Rattle.laws.specs.inner.Members.{Any, here, there, In}
 use Rattle.laws.proofs.Basics.Tests.{contradiction, and-true, or-true, or-left, or-right, true-or-false}
 use Rattle.laws.proofs.Basics.Lists.{Each, find, any-of-nil, each-at-member}
 use Rattle.laws.proofs.Choice.Conditions.{keeps}
-use Rattle.search.specs.Pierce.{pierces, pierces-four, pierced, unpierced}
+use Rattle.search.specs.inner.Pierce.{pierces, pierces-four, pierced, unpierced}
 use Rattle.search.proofs.Pairs.{apart-all-true}
 use Rattle.search.proofs.Coverage.{all-kept-true, holds-edge-true}
 use Rattle.search.proofs.NotApart.{not-apart, not-apart-back, not-one}

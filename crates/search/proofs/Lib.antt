@@ -42,6 +42,7 @@ pub mod Settling
 pub mod Gather
 pub mod Searched
 pub mod Answers
+pub mod AlikeAnswer
 pub mod FromThreshold
 pub mod Thresholds
 pub mod Attempts

@@ -10,9 +10,10 @@ use lib.ListN.{length, getD, replicate, length-replicate}
 use Rattle.geometry.specs.Space.{four}
 use Rattle.geometry.specs.declared.tetrahedron.Four.{Four}
 use Rattle.laws.specs.Laws.{corner-of, fours-in}
-use Rattle.search.specs.Marks.{nth}
-use Rattle.search.specs.Tables.{All-below, Below-16, linked, Link, Links-are}
-use Rattle.search.proofs.CoverageByNumber.{nth-bytes}
+use Rattle.laws.proofs.Order.Bytes.{fours-in-nth}
+use Rattle.laws.specs.inner.ListedFours.{Below}
+use Rattle.search.specs.inner.Marks.{nth}
+use Rattle.search.specs.inner.Tables.{All-below, linked, Link, Links-are}
 use Rattle.search.proofs.Flags.{zeros}
 use Rattle.search.proofs.PairFlags.{Corner, corner-true, corner-is, Raises, linked-four, raises-four}
 
@@ -22,10 +23,10 @@ pub record Linking (m : ℕ) (fours marks : List ℕ) (v w k : ℕ) (flags : Lis
   pub yes : (a b : ℕ) → a < 16 → b < 16 → 0 < getD flags (a * 16 + b) 0 → Link m fours marks v w a b
   pub no : (a b : ℕ) (l : Link m fours marks v w a b) → l .number < k → 0 < getD flags (a * 16 + b) 0
 
-pub four-below : (m : ℕ) (fours : List ℕ) (k : ℕ) → All-below 16 (m * 4) fours → k < m → Below-16 (nth (fours-in m fours) k)
+pub four-below : (m : ℕ) (fours : List ℕ) (k : ℕ) → All-below 16 (m * 4) fours → k < m → Below 16 (nth (fours-in m fours) k)
 unfolding four
 four-below m fours k s l =
-    subst Below-16 (sym (nth-bytes m fours k l))
+    subst (Below 16) (sym (fours-in-nth m fours k _ l))
     (record { a = s .each (k * 4) (omega arith); b = s .each (k * 4 + 1) (omega arith); c = s .each (k * 4 + 2) (omega arith); d = s .each (k * 4 + 3) (omega arith) })
 
 module _ (m : ℕ) (fours marks : List ℕ) (v w : ℕ) where

@@ -17,7 +17,7 @@ use Rattle.laws.proofs.Choice.Conditions.{keeps}
 use Rattle.laws.proofs.Faces.Conforming.{Conforming, law-4-conforming, Closed}
 use Rattle.laws.proofs.Faces.Owners.{face-owner, owned-face, face-has-one-owner}
 use Rattle.laws.proofs.Faces.OpenFaces.{Open, bound, inner, open-face-owner, closed-or-open}
-use Rattle.search.specs.Part.{open-face, Ext}
+use Rattle.search.specs.inner.Part.{open-face, Ext}
 use Rattle.search.proofs.Coverage.{On-edge, holds-edge-of, holds-edge-true, is-corner-of, is-corner-true, law-6-true, law-7-true}
 use Rattle.search.proofs.Extensions.{Useless, unset-is-alive}
 

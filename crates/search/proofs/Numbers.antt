@@ -17,7 +17,7 @@ use Rattle.laws.proofs.Basics.Tests.{true-or-false}
 use Rattle.laws.proofs.Basics.Lists.{any-of-nil, each-at-member, each-of-members}
 use Rattle.laws.proofs.Order.FourOrder.{four-before-asym}
 use Rattle.laws.proofs.Order.Sorted.{Sorted, start, next, law-1-sorted, sorted-same-members}
-use Rattle.search.specs.Marks.{nth, Pool, marked-from, marked, live}
+use Rattle.search.specs.inner.Marks.{nth, Pool, marked-from, marked, live}
 
 -- ---- numbers of a list
 pub nth-member : (cs : List Four) (k : ℕ) → k < length cs → In (nth cs k) cs

@@ -21,10 +21,10 @@ use Rattle.laws.proofs.Faces.Owners.{face-owner}
 use Rattle.laws.proofs.Faces.OpenFaces.{Open, bound, inner}
 use Rattle.laws.specs.inner.FaceCodes.{face-code, flip-code, Proper}
 use Rattle.laws.proofs.Faces.ProperFaces.{faces-proper}
-use Rattle.search.specs.Part.{open-face}
-use Rattle.search.specs.Marks.{nth, marked, Fills}
-use Rattle.search.specs.Codes.{Face-table, Owns, Owner, Owner-flags, Bound-flags, open-code}
-use Rattle.search.specs.Steps.{Open-at}
+use Rattle.search.specs.inner.Part.{open-face}
+use Rattle.search.specs.inner.Marks.{nth, marked, Fills}
+use Rattle.search.specs.inner.Codes.{Face-table, Owns, Owner, Owner-flags, Bound-flags, open-code}
+use Rattle.search.specs.inner.Steps.{Open-at}
 use Rattle.search.proofs.Extensions.{Useless}
 use Rattle.search.proofs.NewOwners.{open-face-false-of, open-face-of}
 use Rattle.search.proofs.Numbers.{marked-in, nth-member}

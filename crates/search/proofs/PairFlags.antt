@@ -12,7 +12,8 @@ use lib.ListN.{length, getD, set, length-set}
 use Rattle.geometry.specs.declared.tetrahedron.Four.{Four}
 use Rattle.laws.specs.Laws.{corner-of}
 use Rattle.laws.proofs.Basics.Tests.{or-true, or-left, or-right}
-use Rattle.search.specs.Tables.{Below-16, linked}
+use Rattle.laws.specs.inner.ListedFours.{Below}
+use Rattle.search.specs.inner.Tables.{linked}
 use Rattle.search.proofs.Flags.{raised-here, raised-stays, raised-elsewhere}
 
 -- ---- the corners of a four
@@ -103,7 +104,7 @@ raises-as {P} {Q} {old} {flags} f g r =
     as-q a b (inr p) = inr (f a b p)
 
 -- ---- one point with each corner, and each corner with each corner
-raises-corner : (flags : List ℕ) (a : ℕ) (f : Four) → length flags ≡ 256 → a < 16 → Below-16 f → Raises (λ x y. (x ≡ a) × Corner y f) flags (linked flags a f)
+raises-corner : (flags : List ℕ) (a : ℕ) (f : Four) → length flags ≡ 256 → a < 16 → Below 16 f → Raises (λ x y. (x ≡ a) × Corner y f) flags (linked flags a f)
 unfolding linked
 raises-corner flags a f l h s =
     let r = raises-one flags a (f .a) l h (s .a) in
@@ -127,7 +128,7 @@ raises-corner flags a f l h s =
 abbrev pub linked-four : List ℕ → Four → List ℕ
 linked-four flags f = linked (linked (linked (linked flags (f .a) f) (f .b) f) (f .c) f) (f .d) f
 
-pub raises-four : (flags : List ℕ) (f : Four) → length flags ≡ 256 → Below-16 f → Raises (λ x y. Corner x f × Corner y f) flags (linked-four flags f)
+pub raises-four : (flags : List ℕ) (f : Four) → length flags ≡ 256 → Below 16 f → Raises (λ x y. Corner x f × Corner y f) flags (linked-four flags f)
 raises-four flags f l s =
     let r = raises-corner flags (f .a) f l (s .a) s in
     let t = raises-corner (linked flags (f .a) f) (f .b) f (r .long) (s .b) s in

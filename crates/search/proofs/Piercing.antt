@@ -22,7 +22,7 @@ use Rattle.laws.specs.inner.Listed.{edge-at, edges-from}
 use Rattle.laws.proofs.Basics.Tests.{contradiction}
 use Rattle.laws.proofs.Basics.Scan.{Step}
 use Rattle.laws.proofs.Checker.Rest.{edges-start, edges-more}
-use Rattle.search.specs.Pierce.{opposite, all-one-sign, runs-through, pierces, pierces-four, pierced}
+use Rattle.search.specs.inner.Pierce.{opposite, all-one-sign, runs-through, pierces, pierces-four, pierced}
 
 -- ---- signs of whole numbers
 abbrev pub opposite-signs : (p q : ℤ) → Bool

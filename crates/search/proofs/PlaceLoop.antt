@@ -13,8 +13,8 @@ use lib.Seq.{getD-set-same, getD-set-other}
 use Rattle.geometry.specs.declared.tetrahedron.Four.{Four}
 use Rattle.laws.specs.Laws.{Job}
 use Rattle.laws.proofs.Basics.Tests.{contradiction}
-use Rattle.search.specs.Part.{compatible}
-use Rattle.search.specs.Marks.{nth, placed-mark, Placed}
+use Rattle.search.specs.inner.Part.{compatible}
+use Rattle.search.specs.inner.Marks.{nth, placed-mark, Placed}
 use Rattle.search.proofs.Numbers.{mark-within}
 
 -- t is set; ms the marks before the loop, ns now, the first k passed

@@ -11,7 +11,7 @@ use borrow.Author.Tests.{le-leb, lt-leb}
 use lib.Dec.{leb}
 use lib.ListN.{length, getD, set, replicate}
 use lib.Seq.{getD-set-same, getD-set-other}
-use Rattle.search.specs.Tables.{Alive-from, Between, Least-set}
+use Rattle.search.specs.inner.Tables.{Alive-from, Between, Least-set}
 
 -- ---- marks from a threshold: the first k passed, nothing marked after them
 pub record Alive-below (quals : List ℕ) (k q : ℕ) (ms : List ℕ) : Type 0 where

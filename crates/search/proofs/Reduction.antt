@@ -16,8 +16,8 @@ use Rattle.laws.proofs.Basics.Lists.{Each}
 use Rattle.laws.proofs.Faces.Triangles.{back, reversed-back, Has, has-true, has-false}
 use Rattle.laws.proofs.Choice.Conditions.{keeps}
 use Rattle.laws.proofs.Order.Sorted.{Sorted}
-use Rattle.search.specs.Part.{open-face, Fit}
-use Rattle.search.specs.Marks.{nth, marked, live, Fills, Reduced, Extended, Cornered}
+use Rattle.search.specs.inner.Part.{open-face, Fit}
+use Rattle.search.specs.inner.Marks.{nth, marked, live, Fills, Reduced, Extended, Cornered}
 use Rattle.search.proofs.Boundary.{Boundary}
 use Rattle.search.proofs.Coverage.{On-edge}
 use Rattle.search.proofs.Extensions.{Useless, Without, closed-only-extension, extension-drop, extension-moved}

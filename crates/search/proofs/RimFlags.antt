@@ -21,13 +21,14 @@ use Rattle.laws.proofs.Choice.Conditions.{accepted}
 use Rattle.laws.proofs.Checker.Refusal.{points-few, triangles-few, all-within}
 use Rattle.laws.proofs.Order.Sorted.{law-1-well-formed, increasing}
 use Rattle.laws.specs.inner.FaceCodes.{face-code}
-use Rattle.search.specs.Marks.{nth}
-use Rattle.search.specs.Codes.{Bound, Bound-flags}
-use Rattle.search.specs.Steps.{Context}
-use Rattle.search.specs.Tables.{All-below, Rim, Named, Below-16}
+use Rattle.laws.proofs.Order.Bytes.{fours-in-nth}
+use Rattle.laws.specs.inner.ListedFours.{Below}
+use Rattle.search.specs.inner.Marks.{nth}
+use Rattle.search.specs.inner.Codes.{Bound, Bound-flags}
+use Rattle.search.specs.inner.Steps.{Context}
+use Rattle.search.specs.inner.Tables.{All-below, Rim, Named}
 use Rattle.search.proofs.Numbers.{nth-member}
 use Rattle.search.proofs.Context.{context-codes, context-count}
-use Rattle.search.proofs.CoverageByNumber.{nth-bytes}
 
 -- ---- the boundary's triangles by number
 tri-equal : {a b c d e f : ℕ} → a ≡ d → b ≡ e → c ≡ f → tri a b c ≡ tri d e f
@@ -149,7 +150,7 @@ module _ {ps : List ℤ} {ts es : List ℕ} {qs : List ℤ} {fours codes bound :
   pub context-codes-below : All-below 4096 (m * 4) codes
   context-codes-below = record { long = omega (arith, x .faces .long, context-count x); each = context-codes x }
 
-  pub context-four-below-16 : (k : ℕ) → k < m → Below-16 (nth (fours-in m fours) k)
+  pub context-four-below-16 : (k : ℕ) → k < m → Below 16 (nth (fours-in m fours) k)
   unfolding job
   context-four-below-16 k l =
       let n = length (points-in ps) in
@@ -162,5 +163,5 @@ module _ {ps : List ℤ} {ts es : List ℕ} {qs : List ℤ} {fours codes bound :
   context-fours-below =
       record {
         long = x .long;
-        each = by-four 16 m fours (λ k l. let b : Below-16 (four (getD fours (k * 4) 0) (getD fours (k * 4 + 1) 0) (getD fours (k * 4 + 2) 0) (getD fours (k * 4 + 3) 0)) = subst Below-16 (nth-bytes m fours k l) (context-four-below-16 k l) in (b .a, (b .b, (b .c, b .d))));
+        each = by-four 16 m fours (λ k l. let b : Below 16 (four (getD fours (k * 4) 0) (getD fours (k * 4 + 1) 0) (getD fours (k * 4 + 2) 0) (getD fours (k * 4 + 3) 0)) = subst (Below 16) (fours-in-nth m fours k _ l) (context-four-below-16 k l) in (b .a, (b .b, (b .c, b .d))));
       }

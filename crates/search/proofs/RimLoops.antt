@@ -10,7 +10,7 @@ use lib.Seq.{getD-set-same, getD-set-other}
 use Rattle.laws.specs.Laws.{tri}
 use Rattle.laws.specs.inner.Listed.{tri-at}
 use Rattle.laws.specs.inner.FaceCodes.{digits, face-code, least-turn}
-use Rattle.search.specs.Tables.{All-below, Rim, Named}
+use Rattle.search.specs.inner.Tables.{All-below, Rim, Named}
 use Rattle.search.proofs.Flags.{zeros, raised-here, raised-stays, raised-elsewhere}
 
 -- ---- the number of a triangle, by which of its points comes first

@@ -15,8 +15,8 @@ use Rattle.laws.proofs.Basics.Lists.{any-of-member}
 use Rattle.laws.proofs.Choice.Promises.{best-alone}
 use Rattle.search.specs.Entry.{in-front, says, Searched}
 use Rattle.search.specs.declared.search.Found.{Found}
-use Rattle.search.specs.Part.{open-face}
-use Rattle.search.specs.Marks.{nth, Pool, Covers, marked, Fills, Started, Extended}
+use Rattle.search.specs.inner.Part.{open-face}
+use Rattle.search.specs.inner.Marks.{nth, Pool, Covers, marked, Fills, Started, Extended}
 use Rattle.search.proofs.Boundary.{Boundary}
 use Rattle.search.proofs.Worst.{worst-equals}
 use Rattle.search.proofs.NewOwners.{closed-of-none-open, open-face-of}

@@ -14,8 +14,8 @@ use Rattle.laws.specs.Laws.{Job}
 use Rattle.laws.specs.inner.Members.{here, there, In}
 use Rattle.laws.proofs.Basics.Tests.{contradiction}
 use Rattle.laws.proofs.Order.Sorted.{Sorted}
-use Rattle.search.specs.Part.{compatible, Fit}
-use Rattle.search.specs.Marks.{nth, marked, live, Fills, placed-mark, Placed, Extended, Cornered}
+use Rattle.search.specs.inner.Part.{compatible, Fit}
+use Rattle.search.specs.inner.Marks.{nth, marked, live, Fills, placed-mark, Placed, Extended, Cornered}
 use Rattle.search.proofs.Extensions.{Beside, Useless, extension-moved, extension-set, extension-unset}
 use Rattle.search.proofs.Steps.{fit-moved, fit-set}
 use Rattle.search.proofs.Numbers.{live-less, marked-into, marked-number, nth-injective, number-marked}

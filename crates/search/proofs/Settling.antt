@@ -13,10 +13,10 @@ use Rattle.laws.proofs.Basics.Lists.{Each, each-at-member}
 use Rattle.laws.proofs.Choice.Conditions.{accepted}
 use Rattle.laws.specs.inner.FaceCodes.{Proper}
 use Rattle.laws.proofs.Faces.ProperFaces.{boundary-proper}
-use Rattle.search.specs.Marks.{Reduced}
-use Rattle.search.specs.Codes.{Owner-flags}
-use Rattle.search.specs.Steps.{Context, Ready, Settles}
-use Rattle.search.specs.Tables.{All-below, All-linked, Behind-set, Goes-on, Links-are, On-rim, Rim, Unlinked}
+use Rattle.search.specs.inner.Marks.{Reduced}
+use Rattle.search.specs.inner.Codes.{Owner-flags}
+use Rattle.search.specs.inner.Steps.{Context, Ready, Settles}
+use Rattle.search.specs.inner.Tables.{All-below, All-linked, Behind-set, Goes-on, Links-are, On-rim, Rim, Unlinked}
 use Rattle.laws.proofs.Faces.FaceCodes.{face-code-below}
 use Rattle.search.proofs.RimFlags.{accepted-kept-below-16, accepted-points-few, tri-stands}
 use Rattle.search.proofs.Context.{settles-covered, settles-uncovered}

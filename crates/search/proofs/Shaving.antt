@@ -8,8 +8,8 @@ use lib.IntN.{ℤ}
 use Rattle.laws.specs.Laws.{fours-in}
 use Rattle.laws.specs.Lists.{job-lists}
 use Rattle.laws.specs.Check.{job}
-use Rattle.search.specs.Marks.{Placed, Reduced, Extended}
-use Rattle.search.specs.Steps.{Context, Settles}
+use Rattle.search.specs.inner.Marks.{Placed, Reduced, Extended}
+use Rattle.search.specs.inner.Steps.{Context, Settles}
 use Rattle.search.proofs.Reduction.{reduced-failed, reduced-trans}
 use Rattle.search.proofs.Context.{context-count, cornered-placed}
 

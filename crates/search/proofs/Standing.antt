@@ -13,7 +13,7 @@ use lib.IntN.{ℤ}
 use Rattle.geometry.specs.Space.{V3, origin, point, points-in, D, above, zero-z, four, solid, turned, inside}
 use Rattle.geometry.specs.declared.tetrahedron.Four.{Four}
 use Rattle.geometry.specs.Range.{Present}
-use Rattle.laws.specs.Laws.{Job, tri, rising, entry, quality, none-inside, faces}
+use Rattle.laws.specs.Laws.{Job, tri, rising, entry, quality, none-inside, interior-empty, faces}
 use Rattle.laws.specs.Lists.{job-lists}
 use Rattle.laws.specs.Check.{job, job-refusal}
 use Rattle.laws.proofs.Basics.Tests.{and-of}
@@ -23,10 +23,11 @@ use Rattle.laws.proofs.Basics.Scan.{Step}
 use Rattle.laws.proofs.Order.Sorted.{Well-formed}
 use Rattle.laws.specs.inner.FaceCodes.{face-code, flip-code, Proper}
 use Rattle.laws.proofs.Faces.ProperFaces.{boundary-proper, faces-proper}
-use Rattle.search.specs.Pierce.{pierced}
-use Rattle.search.specs.Part.{reverses, candidate}
-use Rattle.search.specs.Codes.{Bound-flags}
-use Rattle.search.specs.Tables.{All-below, Stage}
+use Rattle.laws.specs.inner.NextFour.{Ordered}
+use Rattle.search.specs.inner.Pierce.{pierced}
+use Rattle.search.specs.inner.Part.{reverses, candidate}
+use Rattle.search.specs.inner.Codes.{Bound-flags}
+use Rattle.search.specs.inner.Tables.{All-below}
 use Rattle.search.proofs.BoundaryFlags.{reverses-by-flags}
 use Rattle.search.proofs.RimFlags.{accepted-points-few, accepted-kept-present}
 
@@ -47,7 +48,7 @@ module _ (ps : List V3) (f : Four) where
   inside-end qs p h = rw (drop-of-length-le qs h) refl
 
 -- no point inside the four as it was turned
-pub none-inside-turned : (ps : List V3) (f : Four) {g : Four} {r : Bool} → g ≡ turned ps f → r ≡ not (none-inside ps g ps) → not r ≡ none-inside ps (turned ps f) ps
+pub none-inside-turned : (ps : List V3) (f : Four) {g : Four} {r : Bool} → g ≡ turned ps f → r ≡ not (none-inside ps g ps) → not r ≡ interior-empty ps f
 none-inside-turned ps f {g} e h = ap not h ∙ twice (none-inside ps g ps) ∙ ap (λ (x : Four). none-inside ps x ps) e
   where
     twice : (b : Bool) → not (not b) ≡ b
@@ -80,12 +81,12 @@ by-third a b false r p e g h k = rw (e, g) refl
 pub record Ground (ps : List ℤ) (ts es : List ℕ) (qs : List ℤ) (bnd : List ℕ) (f : Four) : Type 0 where
   pub ok : job-refusal (job-lists ps ts es qs) ≡ 0
   pub flags : Bound-flags (job (job-lists ps ts es qs) .triangles) bnd
-  pub stage : Stage (length (points-in ps)) f
+  pub stage : Ordered (length (points-in ps)) f
 
 pub ground :
     (ps : List ℤ) (ts es : List ℕ) (qs : List ℤ) (bnd : List ℕ) (f : Four) {n : ℕ} → job-refusal (job-lists ps ts es qs) ≡ 0 →
-    Bound-flags (job (job-lists ps ts es qs) .triangles) bnd → n ≡ length (points-in ps) → Stage n f → Ground ps ts es qs bnd f
-ground ps ts es qs bnd f ok flags e s = record { ok = ok; flags = flags; stage = subst (λ (k : ℕ). Stage k f) e s }
+    Bound-flags (job (job-lists ps ts es qs) .triangles) bnd → n ≡ length (points-in ps) → Ordered n f → Ground ps ts es qs bnd f
+ground ps ts es qs bnd f ok flags e s = record { ok = ok; flags = flags; stage = subst (λ (k : ℕ). Ordered k f) e s }
 
 module _ {ps : List ℤ} {ts es : List ℕ} {qs : List ℤ} {bnd : List ℕ} {f : Four} (w : Ground ps ts es qs bnd f) where
   abbrev P : List V3
@@ -98,17 +99,17 @@ module _ {ps : List ℤ} {ts es : List ℕ} {qs : List ℤ} {bnd : List ℕ} {f 
   unfolding rising
   good =
       let s = w .stage in
-      record { up = and-of (lt-ltb (f .a) (f .b) (s .ab)) (and-of (lt-ltb (f .b) (f .c) (s .bc)) (lt-ltb (f .c) (f .d) (s .cd))); below = s .below }
+      record { up = and-of (lt-ltb (f .a) (f .b) (s .ab)) (and-of (lt-ltb (f .b) (f .c) (s .bc)) (lt-ltb (f .c) (f .d) (s .cd))); below = s .dn }
 
   pub present : Present ps f
   present =
       let s = w .stage in
       record {
         near = accepted (job-lists ps ts es qs) (w .ok) .near;
-        a = omega (arith, s .ab, s .bc, s .cd, s .below);
-        b = omega (arith, s .bc, s .cd, s .below);
-        c = omega (arith, s .cd, s .below);
-        d = s .below;
+        a = omega (arith, s .ab, s .bc, s .cd, s .dn);
+        b = omega (arith, s .bc, s .cd, s .dn);
+        c = omega (arith, s .cd, s .dn);
+        d = s .dn;
       }
 
   pub kept-present : All-below (length (points-in ps)) (length es / 2 * 2) es
@@ -136,7 +137,7 @@ module _ {ps : List ℤ} {ts es : List ℕ} {qs : List ℤ} {bnd : List ℕ} {f 
   of-worth = ltb 0 (quality (entry J f))
 
   abbrev empty : Bool
-  empty = none-inside P (turned P f) P
+  empty = interior-empty P f
 
   abbrev backs : Bool
   backs = reverses (faces (turned P f)) (J .triangles)

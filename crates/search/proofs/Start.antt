@@ -13,8 +13,8 @@ use Rattle.geometry.specs.declared.tetrahedron.Four.{Four}
 use Rattle.laws.specs.Laws.{Job, entry, quality}
 use Rattle.laws.specs.inner.Members.{In}
 use Rattle.laws.proofs.Basics.Lists.{any-of-nil}
-use Rattle.search.specs.Part.{Ext, Fit}
-use Rattle.search.specs.Marks.{nth, Pool, Covers, marked, Fills, Started}
+use Rattle.search.specs.inner.Part.{Ext, Fit}
+use Rattle.search.specs.inner.Marks.{nth, Pool, Covers, marked, Fills, Started}
 use Rattle.search.proofs.Candidates.{candidate-true}
 use Rattle.search.proofs.Worst.{worst-bounds-each}
 use Rattle.search.proofs.Extensions.{From, extension-moved, extension-start-back}

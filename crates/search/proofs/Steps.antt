@@ -15,7 +15,7 @@ use Rattle.laws.proofs.Choice.Conditions.{keeps}
 use Rattle.laws.proofs.Faces.Conforming.{Closed}
 use Rattle.laws.proofs.Order.Sorted.{Sorted}
 use Rattle.laws.proofs.Faces.OpenFaces.{Open}
-use Rattle.search.specs.Part.{candidate, compatible, Ext, Together, Fit}
+use Rattle.search.specs.inner.Part.{candidate, compatible, Ext, Together, Fit}
 use Rattle.search.proofs.Candidates.{candidate-of, candidate-true}
 use Rattle.search.proofs.Pairs.{compatible-swap}
 use Rattle.search.proofs.Coverage.{On-edge}

@@ -41,6 +41,7 @@ module _ {j : Job} {r : Found} {a b : List ℕ} (s : Searched j r a b) where
   none-found n = let w = s .none-there n in record { number = w .0 .0; count = w .0 .1; worth = w .0 .2; unchanged = w .1 }
 
   third-term : Third-term j r a b
+  unfolding Choice
   third-term =
       record {
         filled = λ gs k. let f = best-exists j gs k in best-filled (f .0) (f .1);
@@ -50,12 +51,10 @@ module _ {j : Job} {r : Found} {a b : List ℕ} (s : Searched j r a b) where
       }
     where
       said-found : r .number ≡ 0 → (c : Option (List Four)) → Choice j c → Filled j r a b
-      unfolding Choice
       said-found e none n = let z = none-found n .number in absurd (omega arith)
       said-found e (some fs) h = best-filled fs h
 
       said-none : r .number ≡ 15 → (c : Option (List Four)) → Choice j c → (gs : List Four) → lawful j gs ≡ false
-      unfolding Choice
       said-none e none n = n
       said-none e (some fs) h = let z = best-filled fs h .number in absurd (omega arith)
 
@@ -64,7 +63,7 @@ unfolding Term-three
 term-three l r a b h long s = third-term (searched-of l r a b h long s)
 
 pub refusal-unchanged : Refusal-unchanged
-unfolding Refusal-unchanged
+unfolding Refusal-unchanged Choice
 refusal-unchanged l r a b s n = go (ℕ-discrete (job-refusal l) 0) (decLt (length a) 7280)
   where
     go : Dec (job-refusal l ≡ 0) → Dec (length a < 7280) → b ≡ a
@@ -76,6 +75,5 @@ refusal-unchanged l r a b s n = go (ℕ-discrete (job-refusal l) 0) (decLt (leng
         t = searched-of l r a b h (omega arith) s
 
         unfound : (c : Option (List Four)) → Choice (job l) c → b ≡ a
-        unfolding Choice
         unfound none m = none-found t m .unchanged
         unfound (some fs) m = absurd (n (best-filled t fs m .number))

@@ -8,8 +8,8 @@ use native.Mathlib.Omega.{arith}
 use native.Mathlib.Decide.{ℕ-discrete}
 use lib.ListN.{getD, set}
 use lib.Seq.{getD-set-same, getD-set-other}
-use Rattle.search.specs.Steps.{Stuck}
-use Rattle.search.specs.Tables.{Thins}
+use Rattle.search.specs.inner.Steps.{Stuck}
+use Rattle.search.specs.inner.Tables.{Thins}
 use Rattle.search.proofs.Numbers.{mark-within}
 
 -- the first k passed, the rest as before

@@ -12,10 +12,10 @@ use Rattle.laws.specs.Laws.{fours-in}
 use Rattle.laws.specs.Lists.{job-lists}
 use Rattle.laws.specs.Check.{job}
 use Rattle.laws.specs.inner.Members.{In}
-use Rattle.search.specs.Marks.{nth, marked, Fills, Reduced}
-use Rattle.search.specs.Codes.{Owner-flags}
-use Rattle.search.specs.Steps.{Context, Stuck}
-use Rattle.search.specs.Tables.{Thins, Thinned-to, same, round}
+use Rattle.search.specs.inner.Marks.{nth, marked, Fills, Reduced}
+use Rattle.search.specs.inner.Codes.{Owner-flags}
+use Rattle.search.specs.inner.Steps.{Context, Stuck}
+use Rattle.search.specs.inner.Tables.{Thins, Thinned-to, same, round}
 use Rattle.search.proofs.Numbers.{mark-of, mark-within, marked-into, marked-number, number-marked}
 use Rattle.search.proofs.Reduction.{reduced-refl, reduced-trans}
 use Rattle.search.proofs.Context.{context-count, context-sorted, reduced-thin}

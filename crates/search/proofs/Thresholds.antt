@@ -19,14 +19,14 @@ use Rattle.laws.specs.inner.Members.{here}
 use Rattle.laws.proofs.Basics.Tests.{and-true, or-false}
 use Rattle.laws.proofs.Faces.Triangles.{Has, same-refl}
 use Rattle.laws.proofs.Choice.Conditions.{accepted}
-use Rattle.search.specs.Codes.{Bound-flags}
-use Rattle.search.specs.Marks.{nth, Pool, Covers, marked, Fills, Started}
-use Rattle.search.specs.Steps.{Context, Ready}
-use Rattle.search.specs.Tables.{Filed, Whole, Alive-from, Least-set}
+use Rattle.laws.proofs.Order.Bytes.{fours-in-length}
+use Rattle.search.specs.inner.Codes.{Bound-flags}
+use Rattle.search.specs.inner.Marks.{nth, Pool, Covers, marked, Fills, Started}
+use Rattle.search.specs.inner.Steps.{Context, Ready}
+use Rattle.search.specs.inner.Tables.{Filed, Whole, Alive-from, Least-set}
 use Rattle.search.proofs.Boundary.{Boundary}
 use Rattle.search.proofs.Extensions.{extension-start, extension-start-back}
 use Rattle.search.proofs.Start.{started-fit, started-from, started-into}
-use Rattle.search.proofs.Context.{fours-in-length}
 use Rattle.search.proofs.Searched.{worst-by-number}
 
 -- ---- number 12 and number 5: qualities are millionths at most, and there is a boundary triangle

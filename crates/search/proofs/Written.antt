@@ -12,10 +12,10 @@ use Rattle.geometry.specs.Space.{V3, four, turned}
 use Rattle.geometry.specs.declared.tetrahedron.Four.{Four}
 use Rattle.laws.specs.Laws.{Job, entry, quality, tri, faces, fours-in}
 use Rattle.laws.specs.inner.FaceCodes.{face-code}
-use Rattle.search.specs.Marks.{nth}
-use Rattle.search.specs.Codes.{Face-table}
-use Rattle.search.specs.Tables.{Qualities, All-below}
-use Rattle.search.specs.Filing.{put-four, put-faces, copied}
+use Rattle.search.specs.inner.Marks.{nth}
+use Rattle.search.specs.inner.Codes.{Face-table}
+use Rattle.search.specs.inner.Tables.{Qualities, All-below}
+use Rattle.search.specs.inner.Filing.{put-four, put-faces, copied}
 
 -- ---- four numbers written
 module _ (k a b c d : ℕ) (xs : List ℕ) where

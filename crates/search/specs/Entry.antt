@@ -2,13 +2,14 @@
 use mathlib.Core.Path.{_≡_}
 use mathlib.Core.Bool.{true, false, cond}
 use mathlib.Core.List.{List, _++_}
-use Prim.Native.Nat.{ℕ, zero, suc, _<_}
+use Prim.Native.Nat.{ℕ, zero, suc}
 use lib.Dec.{ltb, eqb}
 use lib.ListN.{length, drop}
 use lib.IntN.{ℤ}
 use Rattle.geometry.specs.declared.tetrahedron.Four.{Four}
 use Rattle.laws.specs.Laws.{Job, lawful, worst, Best, bytes}
 use Rattle.laws.specs.Lists.{Lists}
+use Rattle.laws.specs.Alike.{Alike}
 use Rattle.laws.specs.Check.{job, job-refusal}
 use Rattle.search.specs.declared.search.Found.{Found}
 
@@ -26,15 +27,6 @@ pub record Searched (j : Job) (r : Found) (a a-now : List ℕ) : Type 0 where
   pub found : (fs : List Four) → Best j fs → says 0 (length fs) (worst j fs) r × (a-now ≡ in-front (bytes fs) a)
   pub none-there : ((fs : List Four) → lawful j fs ≡ false) → says 15 0 0 r × (a-now ≡ a)
 
--- no lawful filling has the worst quality `top` or a better one
-pub record Under (j : Job) (top : ℕ) : Type 0 where
-  pub each : (fs : List Four) → lawful j fs ≡ true → worst j fs < top
-
--- a search from the threshold `low` on: the answer, or 15 and that there is nothing of that worst quality
-pub record Searched-from (j : Job) (low : ℕ) (r : Found) (a a-now : List ℕ) : Type 0 where
-  pub found : r .number ≡ 0 → Searched j r a a-now
-  pub none-there : (r .number ≡ 0 → ⊥) → says 15 0 0 r × (a-now ≡ a) × Under j low
-
 unfoldable pub Search-as : (refusal : ℕ) → Job → Found → (a a-now : List ℕ) → Type 0
 Search-as zero j r a b = Searched j r a b
 Search-as (suc n) j r a b = says (suc n) 0 0 r × (b ≡ a)
@@ -42,3 +34,7 @@ Search-as (suc n) j r a b = says (suc n) 0 0 r × (b ≡ a)
 unfoldable pub Search-says : Lists → Found → (a a-now : List ℕ) → Type 0
 Search-says l r a b =
     Search-as (or-else (job-refusal l) (cond (ltb (length a) 7280) 14 0)) (job l) r a b
+
+-- jobs that are alike get the same answer. Proved in proofs/AlikeAnswer.
+unfoldable pub Alike-searched : Type 0
+Alike-searched = (l m : Lists) → Alike l m → (r : Found) (a a-now : List ℕ) → Search-says l r a a-now → Search-says m r a a-now

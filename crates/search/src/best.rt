@@ -7,20 +7,21 @@ ghost use Rattle.geometry.specs.Range.{Present};
 ghost use Rattle.laws.specs.Laws.{choose, fours-in, worst, lawful};
 ghost use Rattle.laws.specs.Lists.{job-lists};
 ghost use Rattle.laws.specs.Check.{job, job-refusal};
-ghost use Rattle.search.specs.Codes.{Bound-flags};
-ghost use Rattle.search.specs.Marks.{marked};
-ghost use Rattle.search.specs.Tables.{All-below, Rim, Stage, Whole, Alive-from, Between, Attempted, Highest, Least-set};
+ghost use Rattle.laws.specs.inner.NextFour.{Ordered};
+ghost use Rattle.search.specs.inner.Codes.{Bound-flags};
+ghost use Rattle.search.specs.inner.Marks.{marked};
+ghost use Rattle.search.specs.inner.Tables.{All-below, Rim, Whole, Alive-from, Between, Attempted, Highest, Least-set};
 use crate::extend::face;
 use crate::marks::Marks;
 use crate::marks::owners;
 use crate::pool::backs_boundary;
 use crate::pool::compact;
 use crate::pool::face_codes;
-use crate::pool::next_four;
 use crate::pool::put_faces;
 use crate::settle::settle;
 use crate::thin::thin_all;
 use checker::table::entry;
+use checker::table::next_four;
 use geometry::tetrahedron::Four;
 use geometry::tetrahedron::is_solid;
 use geometry::tetrahedron::oriented;
@@ -191,7 +192,7 @@ pub fn rough_four(
     quals: &mut [u32],
     k: usize,
 ) -> usize
-    requires { ⌜ (n ≤ 16) × Stage n f × Present (now points) f × (length (now table) ≡ choose n 4) × (length (now bound) ≡ 4096) × (k ≤ 1820) × All-below 4096 (k * 4) (now codes) × (length (now codes) ≡ 7280) × (length (now quals) ≡ 1820) ⌝ }
+    requires { ⌜ (n ≤ 16) × Ordered n f × Present (now points) f × (length (now table) ≡ choose n 4) × (length (now bound) ≡ 4096) × (k ≤ 1820) × All-below 4096 (k * 4) (now codes) × (length (now codes) ≡ 7280) × (length (now quals) ≡ 1820) ⌝ }
     ensures { λ r. ⌜ (r ≤ 1820) × All-below 4096 (r * 4) (now (codes .exit)) × (length (now (codes .exit)) ≡ 7280) × (length (now (quals .exit)) ≡ 1820) ⌝ }
 {
     let e = entry(table, n, f);

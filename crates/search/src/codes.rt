@@ -4,7 +4,7 @@ ghost use Prim.Native.Nat.{_*_, _/_, _<_, _≤_};
 ghost use lib.ListN.{length, getD};
 ghost use Rattle.laws.specs.Laws.{tri};
 ghost use Rattle.laws.specs.inner.FaceCodes.{face-code, flip-code};
-ghost use Rattle.search.specs.Tables.{All-below, Rim, Named};
+ghost use Rattle.search.specs.inner.Tables.{All-below, Rim, Named};
 
 // The faces of a tetrahedron, outward where it is read in the order that makes its volume positive.
 pub struct Faces {

@@ -4,9 +4,10 @@ ghost use mathlib.Core.Bool.{true, false};
 ghost use Prim.Native.Nat.{_+_, _*_, _/_, _<_, _≤_};
 ghost use lib.ListN.{length, getD};
 ghost use Rattle.laws.specs.Laws.{fours-in};
-ghost use Rattle.search.specs.Marks.{nth};
-ghost use Rattle.search.specs.Codes.{Owns, Owner-flags};
-ghost use Rattle.search.specs.Tables.{All-below, Below-16, linked, Links-are, All-linked, Unlinked};
+ghost use Rattle.laws.specs.inner.ListedFours.{Below};
+ghost use Rattle.search.specs.inner.Marks.{nth};
+ghost use Rattle.search.specs.inner.Codes.{Owns, Owner-flags};
+ghost use Rattle.search.specs.inner.Tables.{All-below, linked, Links-are, All-linked, Unlinked};
 use crate::codes::Flags;
 use geometry::tetrahedron::Four;
 
@@ -68,7 +69,7 @@ pub fn owners(codes: &[u16], m: usize, mark: [u8; 1820], v: u8) -> Flags
 
 // Links the point a with each corner of f.
 fn link_corner(link: &mut [u8; 256], a: usize, f: Four)
-    requires { ⌜ (a < 16) × Below-16 f ⌝ }
+    requires { ⌜ (a < 16) × Below 16 f ⌝ }
     ensures { λ _. ⌜ now (link .exit) ≡ linked (now (link .entry)) a f ⌝ }
 {
     link[a * 16 + f.a] = 1;

@@ -13,58 +13,23 @@ ghost use Rattle.laws.specs.Laws.{tri, fours-in, entry, quality, none-inside};
 ghost use Rattle.laws.specs.Lists.{job-lists};
 ghost use Rattle.laws.specs.Check.{job, job-refusal};
 ghost use Rattle.laws.specs.inner.FaceCodes.{face-code, flip-code};
-ghost use Rattle.search.specs.Codes.{Bound-flags};
-ghost use Rattle.search.specs.Filing.{put-four, put-faces, copied, Follows, Considered};
-ghost use Rattle.search.specs.Marks.{marked};
-ghost use Rattle.search.specs.Part.{candidate};
-ghost use Rattle.search.specs.Pierce.{pierces, pierces-four, pierced};
-ghost use Rattle.search.specs.Tables.{All-below, Stage, Filed, Whole};
+ghost use Rattle.laws.specs.inner.NextFour.{Ordered};
+ghost use Rattle.search.specs.inner.Codes.{Bound-flags};
+ghost use Rattle.search.specs.inner.Filing.{put-four, put-faces, copied, Considered};
+ghost use Rattle.search.specs.inner.Marks.{marked};
+ghost use Rattle.search.specs.inner.Part.{candidate};
+ghost use Rattle.search.specs.inner.Pierce.{pierces, pierces-four, pierced};
+ghost use Rattle.search.specs.inner.Tables.{All-below, Filed, Whole};
 use crate::codes::Faces;
 use crate::codes::face_code;
 use crate::codes::flip;
 use checker::table::entry;
+use checker::table::next_four;
 use geometry::tetrahedron::Four;
 use geometry::tetrahedron::is_inside;
 use geometry::tetrahedron::is_solid;
 use geometry::tetrahedron::oriented;
 use geometry::tetrahedron::signed_volume;
-
-// The fours of increasing numbers in order; behind the last one the last number is n.
-pub fn next_four(n: usize, f: Four) -> Four
-    requires { ⌜ (n ≤ 16) × Stage n f ⌝ }
-    ensures { λ r. ⌜ Follows n f r ⌝ }
-{
-    if f.d + 1 < n {
-        return Four {
-            a: f.a,
-            b: f.b,
-            c: f.c,
-            d: f.d + 1,
-        };
-    }
-    if f.c + 2 < n {
-        return Four {
-            a: f.a,
-            b: f.b,
-            c: f.c + 1,
-            d: f.c + 2,
-        };
-    }
-    if f.b + 3 < n {
-        return Four {
-            a: f.a,
-            b: f.b + 1,
-            c: f.b + 2,
-            d: f.b + 3,
-        };
-    }
-    Four {
-        a: f.a + 1,
-        b: f.a + 2,
-        c: f.a + 3,
-        d: f.a + 4,
-    }
-}
 
 // The numbers of the faces (a,c,b), (a,b,d), (a,d,c), (b,c,d).
 pub fn face_codes(f: Four) -> Faces
@@ -208,7 +173,7 @@ pub fn can_stand(
     n: usize,
     f: Four,
 ) -> bool
-    requires { ⌜ (job-refusal (job-lists (now points) (now triangles) (now kept) (now table)) ≡ 0) × Bound-flags (job (job-lists (now points) (now triangles) (now kept) (now table)) .triangles) (now bound) × (length (now bound) ≡ 4096) × (n ≡ length (points-in (now points))) × Stage n f ⌝ }
+    requires { ⌜ (job-refusal (job-lists (now points) (now triangles) (now kept) (now table)) ≡ 0) × Bound-flags (job (job-lists (now points) (now triangles) (now kept) (now table)) .triangles) (now bound) × (length (now bound) ≡ 4096) × (n ≡ length (points-in (now points))) × Ordered n f ⌝ }
     ensures { λ r. ⌜ (0 < quality (entry (job (job-lists (now (points .entry)) (now (triangles .entry)) (now (kept .entry)) (now (table .entry)))) f) → r ≡ candidate (job (job-lists (now (points .entry)) (now (triangles .entry)) (now (kept .entry)) (now (table .entry)))) f) ⌝ }
 {
     if !is_solid(points, f) {
@@ -280,7 +245,7 @@ pub fn consider_four(
     quals: &mut [u32],
     k: usize,
 ) -> usize
-    requires { ⌜ (job-refusal (job-lists (now points) (now triangles) (now kept) (now table)) ≡ 0) × Bound-flags (job (job-lists (now points) (now triangles) (now kept) (now table)) .triangles) (now bound) × (length (now bound) ≡ 4096) × (n ≡ length (points-in (now points))) × Stage n f × (0 < q) × (length (now fours) ≡ 7280) × (length (now codes) ≡ 7280) × (length (now quals) ≡ 1820) × (candidate (job (job-lists (now points) (now triangles) (now kept) (now table))) f ≡ true → k < 1820) ⌝ }
+    requires { ⌜ (job-refusal (job-lists (now points) (now triangles) (now kept) (now table)) ≡ 0) × Bound-flags (job (job-lists (now points) (now triangles) (now kept) (now table)) .triangles) (now bound) × (length (now bound) ≡ 4096) × (n ≡ length (points-in (now points))) × Ordered n f × (0 < q) × (length (now fours) ≡ 7280) × (length (now codes) ≡ 7280) × (length (now quals) ≡ 1820) × (candidate (job (job-lists (now points) (now triangles) (now kept) (now table))) f ≡ true → k < 1820) ⌝ }
     ensures { λ r. ⌜ Considered (job (job-lists (now (points .entry)) (now (triangles .entry)) (now (kept .entry)) (now (table .entry)))) q f (now (fours .entry)) (now (codes .entry)) (now (quals .entry)) k (now (fours .exit)) (now (codes .exit)) (now (quals .exit)) r ⌝ }
 {
     let e = entry(table, n, f);

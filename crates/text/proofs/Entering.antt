@@ -12,7 +12,7 @@ use lib.Signed.{ltZ, leZ, nonNeg, mag}
 use Rattle.geometry.specs.declared.tetrahedron.Four.{Four}
 use Rattle.laws.specs.Laws.{rising, place}
 use Rattle.laws.specs.Check.{unmeasured}
-use Rattle.laws.specs.inner.Unmeasured.{Ordered}
+use Rattle.laws.specs.inner.NextFour.{Ordered}
 use Rattle.laws.proofs.Basics.Tests.{contradiction, and-true, and-of}
 use Rattle.laws.proofs.Order.TablePlace.{getD-inside}
 use Rattle.text.specs.Entries.{whole, four-of, Entered}

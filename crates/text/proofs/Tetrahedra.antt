@@ -11,7 +11,7 @@ use Rattle.laws.specs.Laws.{Job, faces, entry, quality}
 use Rattle.laws.specs.Check.{job}
 use Rattle.laws.specs.inner.Listed.{triangles-in}
 use Rattle.laws.specs.inner.ListedFours.{fours-listed, four-at, fours-from}
-use Rattle.laws.specs.inner.Unmeasured.{Ordered}
+use Rattle.laws.specs.inner.NextFour.{Ordered}
 use Rattle.laws.specs.inner.FaceFlags.{flag-all}
 use Rattle.laws.proofs.Order.Sorted.{law-1-well-formed}
 use Rattle.laws.proofs.Judge.FourList.{fours-start, fours-more, fours-done, each-at, ordered-at, ordered-is, ordered-present}

@@ -9,6 +9,7 @@ use native.Mathlib.Decide.{decLt}
 use lib.ListN.{length}
 use Rattle.geometry.specs.declared.tetrahedron.Four.{Four}
 use Rattle.laws.specs.Laws.{Job, Best, lawful, worst, list-before}
+use Rattle.laws.specs.Choice.{Beats}
 use Rattle.laws.specs.Fours.{all-fours}
 use Rattle.laws.specs.inner.Members.{Any, here, there}
 use Rattle.laws.proofs.Basics.Tests.{contradiction, true-or-false}
@@ -16,10 +17,6 @@ use Rattle.laws.proofs.Basics.Lists.{any-of-nil}
 use Rattle.laws.proofs.Choice.Conditions.{keeps}
 use Rattle.laws.proofs.Order.ListOrder.{list-before-trans, list-discrete, list-trichotomy}
 use Rattle.laws.proofs.Order.Sublists.{sublists, law-1-sublist}
-
--- fs comes before gs in the choice: a greater worst quality, or the same and first in order
-abbrev Beats : Job → (fs gs : List Four) → Type 0
-Beats j fs gs = (worst j gs ≤ worst j fs) × (worst j gs ≡ worst j fs → (gs ≡ fs → ⊥) → list-before fs gs ≡ true)
 
 beats-self : (j : Job) (fs gs : List Four) → gs ≡ fs → Beats j fs gs
 beats-self j fs gs e = let w : worst j gs ≡ worst j fs = ap (worst j) e in (omega arith, λ p n. absurd (n e))

@@ -10,7 +10,7 @@ use Prim.Native.Nat.{_%_}
 use borrow.Author.Tests.{leb-true}
 use Rattle.geometry.proofs.Value.{value-equal}
 use Rattle.laws.specs.Laws.{worst, four-before, place}
-use Rattle.laws.specs.Promise.{Best-alone, Places-right, Fits, Best-there, sum-D, Same-space}
+use Rattle.laws.specs.Promise.{Best-alone, Places-right, Places-rise, Fits, Best-there, sum-D, Same-space}
 use Rattle.laws.specs.Check.{job}
 use Rattle.laws.proofs.Basics.Tests.{and-true}
 use Rattle.laws.proofs.Choice.Conditions.{accepted, keeps}
@@ -38,6 +38,10 @@ places-right n f g h rf rg lf lg = (place-below n f u, λ e. go e (four-trichoto
     go e (inl p) = p
     go e (inr (inl b)) = let l = place-rises n f g u w b in absurd (omega arith)
     go e (inr (inr b)) = let l = place-rises n g f w u b in absurd (omega arith)
+
+pub places-rise : Places-rise
+unfolding Places-rise
+places-rise n f g rf rg lf lg b = place-rises n f g (record { up = rf; below = lf }) (record { up = rg; below = lg }) b
 
 -- at most C(16, 4) = 1,820 fours of 4 bytes each
 pub fits : Fits

@@ -15,7 +15,7 @@ use Rattle.geometry.specs.Range.{any-far, Present}
 use Rattle.geometry.specs.Space.{four, points-in, turned, D, above, zero-z}
 use Rattle.geometry.specs.declared.tetrahedron.Four.{Four}
 use Rattle.laws.specs.Laws.{rising, four-before, law-1, fours-in}
-use Rattle.laws.specs.inner.Unmeasured.{Ordered}
+use Rattle.laws.specs.inner.NextFour.{Ordered}
 use Rattle.laws.proofs.Basics.Lists.{Each, more}
 use Rattle.laws.proofs.Order.Sorted.{increasing, law-1-well-formed}
 use Rattle.laws.specs.inner.ListedFours.{fours-listed, four-at, fours-from, followed, Well-listed, Below}

@@ -15,17 +15,17 @@ use Rattle.laws.proofs.Checker.Chain.{Chain}
 
 -- ---- a law sees the parts of the job that it names
 module _ (l : Lists) where
-  sees-2 : (fs : List Four) → law-2 (job l) fs ≡ law-2 (job (with-table (l .points) (l .table))) fs
+  pub sees-2 : (fs : List Four) → law-2 (job l) fs ≡ law-2 (job (with-table (l .points) (l .table))) fs
   unfolding law-2 job entry
   sees-2 [] = refl
   sees-2 (f ∷ fs) = rw (sees-2 fs) refl
 
-  sees-3 : (fs : List Four) → law-3 (job l) fs ≡ law-3 (job (points-only (l .points))) fs
+  pub sees-3 : (fs : List Four) → law-3 (job l) fs ≡ law-3 (job (points-only (l .points))) fs
   unfolding law-3 job
   sees-3 [] = refl
   sees-3 (f ∷ fs) = rw (sees-3 fs) refl
 
-  sees-5 : (fs : List Four) → law-5 (job l) fs ≡ law-5 (job (points-only (l .points))) fs
+  pub sees-5 : (fs : List Four) → law-5 (job l) fs ≡ law-5 (job (points-only (l .points))) fs
   unfolding law-5 job
   sees-5 [] = refl
   sees-5 (f ∷ fs) = rw (sees-5 fs) refl

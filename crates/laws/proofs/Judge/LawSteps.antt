@@ -10,7 +10,7 @@ use lib.ListN.{length, drop, drop-of-length-le}
 use lib.Seq.{drop-cons}
 use Rattle.geometry.specs.Space.{V3, point, origin, solid, turned, inside, apart}
 use Rattle.geometry.specs.declared.tetrahedron.Four.{Four}
-use Rattle.laws.specs.Laws.{Job, Edge, entry, quality, law-2, none-inside, law-3, apart-all, law-5, corner-of, is-corner, corners-from, holds-edge, all-kept, worst-from}
+use Rattle.laws.specs.Laws.{Job, Edge, entry, quality, law-2, none-inside, interior-empty, law-3, apart-all, law-5, corner-of, is-corner, corners-from, holds-edge, all-kept, worst-from}
 use Rattle.laws.specs.Check.{edges-in}
 use Rattle.laws.specs.inner.Listed.{edge-at, edges-from}
 use Rattle.laws.proofs.Basics.Scan.{Step}
@@ -32,7 +32,7 @@ module _ (ls : List ℕ) (i : ℕ) (h : i < length ls / 4) where
   worst-step w j = rw (fours-more ls i h) refl
 
   pub empty-test :
-      (j : Job) → Test (law-3 j (fours-from ls i)) (none-inside (j .points) (turned (j .points) (four-at ls i)) (j .points)) (law-3 j (fours-from ls (i + 1)))
+      (j : Job) → Test (law-3 j (fours-from ls i)) (interior-empty (j .points) (four-at ls i)) (law-3 j (fours-from ls (i + 1)))
   unfolding law-3
   empty-test j = record { is = rw (fours-more ls i h) refl }
 
@@ -125,7 +125,7 @@ pub edge-is : (fs : List Four) {r : Bool} {a b a′ b′ : ℕ} → r ≡ holds-
 edge-is fs h p q = cc
 
 pub empty-is :
-    (ps : List V3) {r : Bool} {f g h : Four} → r ≡ none-inside ps f ps → f ≡ turned ps g → g ≡ h → r ≡ none-inside ps (turned ps h) ps
+    (ps : List V3) {r : Bool} {f g h : Four} → r ≡ none-inside ps f ps → f ≡ turned ps g → g ≡ h → r ≡ interior-empty ps h
 empty-is ps e p q = cc
 
 pub apart-is : (ps : List V3) {r : Bool} {f g f′ g′ : Four} → r ≡ apart ps f g → f ≡ f′ → g ≡ g′ → r ≡ apart ps f′ g′

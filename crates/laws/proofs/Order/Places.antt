@@ -14,7 +14,8 @@ use Rattle.laws.specs.Laws.{choose, place, rising, four-before, law-1}
 use Rattle.laws.specs.inner.Members.{here, there}
 use Rattle.laws.proofs.Basics.Tests.{and-true, or-true}
 use Rattle.laws.proofs.Basics.Lists.{Each, each-at-member, each-map, more}
-use Rattle.laws.proofs.Order.Sorted.{Increasing, Well-formed, increasing, law-1-well-formed}
+use Rattle.laws.specs.inner.NextFour.{Ordered}
+use Rattle.laws.proofs.Order.Sorted.{Well-formed, increasing, law-1-well-formed}
 use Rattle.laws.proofs.Order.Binomials.{choose-0, choose-1-rises, choose-digit, choose-monotone, pascal, pascal-down}
 use Rattle.laws.proofs.Order.TablePlace.{place-rest}
 
@@ -22,9 +23,9 @@ use Rattle.laws.proofs.Order.TablePlace.{place-rest}
 count-behind : (n : ℕ) → Four → ℕ
 count-behind n f = choose (n - suc (f .a)) 4 + (choose (n - suc (f .b)) 3 + (choose (n - suc (f .c)) 2 + choose (n - suc (f .d)) 1))
 
-place-plus-behind : (n : ℕ) (f : Four) → Increasing n f → place n f + count-behind n f + 1 ≡ choose n 4
+place-plus-behind : (n : ℕ) (f : Four) → Ordered n f → place n f + count-behind n f + 1 ≡ choose n 4
 unfolding count-behind
-place-plus-behind n f u = let e = place-rest n f (record { ab = u .ab; bc = u .bc; cd = u .cd; dn = u .dn }) in omega arith
+place-plus-behind n f u = let e = place-rest n f u in omega arith
 
 -- the last three, two and one terms of `count-behind` are remainders below their digit
 record Remainders (n : ℕ) (f : Four) : Type 0 where
@@ -32,7 +33,7 @@ record Remainders (n : ℕ) (f : Four) : Type 0 where
   mid : choose (n - suc (f .c)) 2 + choose (n - suc (f .d)) 1 < choose (n - suc (f .b)) 2
   high : choose (n - suc (f .b)) 3 + (choose (n - suc (f .c)) 2 + choose (n - suc (f .d)) 1) < choose (n - suc (f .a)) 3
 
-remainders : (n : ℕ) (f : Four) → Increasing n f → Remainders n f
+remainders : (n : ℕ) (f : Four) → Ordered n f → Remainders n f
 remainders n f u =
     let low : choose (n - suc (f .d)) 1 < choose (n - suc (f .c)) 1 = choose-1-rises (n - suc (f .d)) (n - suc (f .c)) (omega arith) in
     let mid = choose-digit 1 (n - suc (f .c)) (n - suc (f .b)) (choose (n - suc (f .d)) 1) 0 (omega arith) low in
@@ -53,7 +54,7 @@ lex-behind n i j k x y r h l f e = go (or-true (ltb i j) (eqb i j && r) e)
         let d = eqb-true i j (q .0) in
         let m = f (q .1) in rw d (omega arith)
 
-earlier-more-behind : (n : ℕ) (f g : Four) → Increasing n f → Increasing n g → four-before f g ≡ true → count-behind n g < count-behind n f
+earlier-more-behind : (n : ℕ) (f g : Four) → Ordered n f → Ordered n g → four-before f g ≡ true → count-behind n g < count-behind n f
 unfolding count-behind four-before
 earlier-more-behind n f g u w =
     let r = remainders n g w in

@@ -8,6 +8,7 @@ use lib.ListN.{length}
 use Rattle.geometry.specs.declared.tetrahedron.Four.{Four}
 use Rattle.laws.specs.Laws.{four-before}
 use Rattle.laws.specs.inner.Members.{Any, In, here, there}
+use Rattle.laws.specs.inner.Sorting.{insert, sort}
 use Rattle.laws.proofs.Basics.Tests.{contradiction}
 use Rattle.laws.proofs.Basics.Lists.{Each, each-map, more, none}
 use Rattle.laws.proofs.Basics.Interleaving.{Interleaving, done, interleave-cases, interleave-each, interleave-left, interleave-length, interleave-nil, interleave-right, left, right}
@@ -18,15 +19,6 @@ use Rattle.laws.proofs.Order.Sorted.{Sorted, next, start}
 pub data Distinct : List Four → Type 0 where
   nil : Distinct []
   new : {f : Four} {fs : List Four} → (In f fs → ⊥) → Distinct fs → Distinct (f ∷ fs)
-
--- ---- insertion sort
-unfoldable pub insert : Four → List Four → List Four
-insert f [] = f ∷ []
-insert f (g ∷ gs) = let r = insert f gs in cond (four-before f g) (f ∷ g ∷ gs) (g ∷ r)
-
-unfoldable pub sort : List Four → List Four
-sort [] = []
-sort (f ∷ fs) = insert f (sort fs)
 
 -- a property of both branches is one of the conditional
 cond-cases : {A : Type 0} (P : A → Type 0) (b : Bool) {x y : A} → (b ≡ true → P x) → (b ≡ false → P y) → P (cond b x y)

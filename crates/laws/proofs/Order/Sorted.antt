@@ -8,6 +8,7 @@ use borrow.Author.Tests.{ltb-true, lt-ltb}
 use lib.Dec.{ltb}
 use Rattle.geometry.specs.declared.tetrahedron.Four.{Four}
 use Rattle.laws.specs.Laws.{rising, four-before, law-1}
+use Rattle.laws.specs.inner.NextFour.{Ordered}
 use Rattle.laws.specs.inner.Members.{In, here, there}
 use Rattle.laws.proofs.Basics.Tests.{and-of, and-true}
 use Rattle.laws.proofs.Basics.Lists.{Each, any-elim, any-of-nil, any-with-each, each-append, each-map, each-of-members, more, none}
@@ -95,13 +96,7 @@ sorted-same-members (next {f = f} {fs = fs} e s) (next {f = g} {fs = gs} d r) in
     let t : fs ≡ gs = sorted-same-members s r (λ u m. member-of-tail f q e m (into u (there m))) (λ u m. member-of-tail g (sym q) d m (from u (there m))) in cc
 
 -- ---- the numbers of a well-formed four
-pub record Increasing (n : ℕ) (f : Four) : Type 0 where
-  pub ab : f .a < f .b
-  pub bc : f .b < f .c
-  pub cd : f .c < f .d
-  pub dn : f .d < n
-
-pub increasing : (n : ℕ) (f : Four) → Well-formed n f → Increasing n f
+pub increasing : (n : ℕ) (f : Four) → Well-formed n f → Ordered n f
 unfolding rising
 increasing n f g =
     let p = and-true (ltb (f .a) (f .b)) (ltb (f .b) (f .c) && ltb (f .c) (f .d)) (g .up) in

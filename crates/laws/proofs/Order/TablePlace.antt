@@ -11,7 +11,7 @@ use lib.ListN.{length, getD}
 use Rattle.geometry.specs.declared.tetrahedron.Four.{Four}
 use Rattle.laws.specs.Laws.{choose, place}
 use Rattle.laws.specs.Check.{over}
-use Rattle.laws.specs.inner.Unmeasured.{Ordered}
+use Rattle.laws.specs.inner.NextFour.{Ordered}
 use Rattle.laws.proofs.Basics.Scan.{neither}
 use Rattle.laws.proofs.Order.Binomials.{before-first-between, before-first-from-0, choose-0, pascal-down}
 

@@ -18,7 +18,8 @@ use Rattle.laws.proofs.Faces.Triangles.{Has, Once, back, once-interleav
 use Rattle.laws.proofs.Faces.Conforming.{Closed, Conforming, Matching, Paired, conforming-law-4, law-4-conforming}
 use Rattle.laws.proofs.Volume.Volume.{four-volume, volume}
 use Rattle.laws.proofs.Order.Sorted.{law-1-sorted, member-or-not, sorted-same-members}
-use Rattle.laws.proofs.Order.Sort.{Distinct, sort, sort-adds-none, sort-keeps, sort-sorted}
+use Rattle.laws.specs.inner.Sorting.{sort}
+use Rattle.laws.proofs.Order.Sort.{Distinct, sort-adds-none, sort-keeps, sort-sorted}
 use Rattle.laws.proofs.Faces.Owners.{faces-interleave, subset-faces}
 
 pub law-2-solid : (j : Job) (fs : List Four) → law-2 j fs ≡ true → Each (λ f. solid (j .points) f ≡ true) fs

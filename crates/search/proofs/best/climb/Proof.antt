@@ -2,7 +2,7 @@
 use mathlib.Core.Path.{_≡_, refl, sym, subst}
 use Prim.Native.Nat.{ℕ, suc, _-_, _<_}
 use native.Mathlib.Omega.{arith}
-use Rattle.search.specs.Tables.{Highest}
+use Rattle.search.specs.inner.Tables.{Highest}
 use Rattle.search.proofs.Thresholds.{alive-ready, filed-context, quals-long}
 use Rattle.search.proofs.Attempts.{highest-ended, highest-lowered, highest-raised}
 use Rattle.search.proofs.best.climb.Statement.{statement}

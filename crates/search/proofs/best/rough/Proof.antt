@@ -4,9 +4,9 @@ use Prim.Native.Nat.{_*_, _-_, _/_, _≤_}
 use native.Mathlib.Omega.{arith}
 use lib.ListN.{length}
 use Rattle.geometry.specs.Space.{points-in}
-use Rattle.search.specs.Tables.{All-below}
+use Rattle.laws.proofs.Order.NextFour.{Staged, staged-start, staged-within, staged-next, rank, rank-bounded, rank-rises}
+use Rattle.search.specs.inner.Tables.{All-below}
 use Rattle.search.proofs.Gathering.{measured, stage-present}
-use Rattle.search.proofs.FourSteps.{Staged, staged-start, staged-within, staged-next, rank, rank-bounded, rank-rises}
 use Rattle.search.proofs.CoverageByNumber.{points-count}
 use Rattle.search.proofs.best.rough.Statement.{statement}
 use Rattle.search.proofs.best.rough.Tie as tie

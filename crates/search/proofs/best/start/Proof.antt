@@ -9,7 +9,7 @@ use Rattle.search.proofs.best.start.Statement.{statement}
 use Rattle.search.proofs.best.start.Tie as tie
 use Rattle.search.proofs.best.start.Reads as reads
 use Rattle.search.proofs.best.start.Lts as lts
-use Rattle.search.specs.Tables.{Alive-from}
+use Rattle.search.specs.inner.Tables.{Alive-from}
 use Rattle.search.proofs.QualityLoops.{Alive-below, alive-below-none, alive-below-skip, alive-below-mark}
 
 abbrev Inv-loop : tie.InvT-loop

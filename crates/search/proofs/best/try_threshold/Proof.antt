@@ -1,7 +1,7 @@
 -- `search::best::try_threshold` meets its contract: settled, compacted, searched. Assumes nothing.
 use borrow.Author.Needs.{needs}
 use borrow.Author.Tests.{not-true, not-false}
-use Rattle.search.specs.Tables.{Whole}
+use Rattle.search.specs.inner.Tables.{Whole}
 use Rattle.search.proofs.Thresholds.{alive-ready, filed-context, quals-long}
 use Rattle.search.proofs.Attempts.{attempt-found, attempt-hopeless, attempt-none, settled-whole}
 use Rattle.search.proofs.best.try_threshold.Statement.{statement}

@@ -7,7 +7,7 @@ use Rattle.search.proofs.best.worst_of.Statement.{statement}
 use Rattle.search.proofs.best.worst_of.Tie as tie
 use Rattle.search.proofs.best.worst_of.Reads as reads
 use Rattle.search.proofs.best.worst_of.Lts as lts
-use Rattle.search.specs.Tables.{Least-set}
+use Rattle.search.specs.inner.Tables.{Least-set}
 use Rattle.search.proofs.QualityLoops.{least-none, least-skip, least-same, least-lower}
 
 abbrev Inv-loop : tie.InvT-loop

@@ -3,7 +3,7 @@ use mathlib.Core.Path.{_≡_, refl, subst, _∙_}
 use Prim.Native.Nat.{ℕ, _-_, _≤_}
 use native.Mathlib.Omega.{arith}
 use lib.ListN.{length, getD, length-replicate, length-set}
-use Rattle.search.specs.Tables.{Named}
+use Rattle.search.specs.inner.Tables.{Named}
 use Rattle.search.proofs.RimLoops.{named-start, named-next}
 use Rattle.search.proofs.codes.named.Statement.{statement}
 use Rattle.search.proofs.codes.named.Tie as tie

@@ -22,7 +22,7 @@ use Rattle.search.proofs.extend.+corner+face.Tie.{close}
 use Rattle.laws.specs.Laws.{fours-in}
 use Rattle.laws.specs.Lists.{job-lists}
 use Rattle.laws.specs.Check.{job}
-use Rattle.search.specs.Marks.{live}
+use Rattle.search.specs.inner.Marks.{live}
 use Rattle.search.proofs.Reduction.{reduced-trans, reduced-back}
 use Rattle.search.proofs.FaceLoop.{Tried, tried-start, tried-skip, tried-failed, tried-reduced, tried-all}
 use Rattle.search.proofs.Context.{tried-none, context-count, ready-placed, live-placed, cornered-placed, ready-reduced, live-reduced}

@@ -5,7 +5,7 @@ use Prim.Native.Nat.{ℕ, _+_, _*_, _-_, _≤_, _<_}
 use native.Mathlib.Omega.{arith}
 use borrow.Author.Count.{below-more, below-none}
 use lib.ListN.{getD}
-use Rattle.search.specs.Codes.{Owns}
+use Rattle.search.specs.inner.Codes.{Owns}
 use Rattle.search.proofs.extend.share_face.Statement.{statement}
 use Rattle.search.proofs.extend.share_face.Tie as tie
 

@@ -7,7 +7,7 @@ use Rattle.search.proofs.extend.shave.Tie as tie
 use Rattle.laws.specs.Laws.{fours-in}
 use Rattle.laws.specs.Lists.{job-lists}
 use Rattle.laws.specs.Check.{job}
-use Rattle.search.specs.Marks.{Reduced}
+use Rattle.search.specs.inner.Marks.{Reduced}
 use Rattle.search.proofs.Reduction.{reduced-refl}
 use Rattle.search.proofs.Context.{ready-placed, ready-reduced}
 use Rattle.search.proofs.Shaving.{reduced-hopeless}

@@ -8,9 +8,9 @@ use borrow.Author.Needs.{needs}
 use Rattle.laws.specs.Laws.{fours-in, worst}
 use Rattle.laws.specs.Lists.{job-lists}
 use Rattle.laws.specs.Check.{job}
-use Rattle.search.specs.Marks.{marked}
-use Rattle.search.specs.Steps.{Context}
-use Rattle.search.specs.Tables.{Highest}
+use Rattle.search.specs.inner.Marks.{marked}
+use Rattle.search.specs.inner.Steps.{Context}
+use Rattle.search.specs.inner.Tables.{Highest}
 use Rattle.search.proofs.Thresholds.{filed-context, quals-long}
 use Rattle.search.proofs.FirstLoop.{Committed, committed-done, committed-dropped, committed-ended, committed-moved, committed-placed, committed-reduced, committed-skipped, committed-start, committed-tried}
 use Rattle.search.proofs.first.first_list.Statement.{statement}

@@ -5,7 +5,7 @@ use Prim.Native.Nat.{ℕ, _+_, _*_, _-_, _/_, _<_, _≤_}
 use native.Mathlib.Omega.{arith}
 use borrow.Author.Count.{below-more, below-none}
 use lib.ListN.{length, getD}
-use Rattle.search.specs.Tables.{point, edge}
+use Rattle.search.specs.inner.Tables.{point, edge}
 use Rattle.search.proofs.marks.all_linked.Statement.{statement}
 use Rattle.search.proofs.marks.all_linked.Tie as tie
 

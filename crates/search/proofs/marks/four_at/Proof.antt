@@ -4,7 +4,7 @@ use Prim.Native.Nat.{_+_, _*_}
 use native.Mathlib.Omega.{arith}
 use borrow.Author.Needs.{needs}
 use Rattle.geometry.specs.Space.{four}
-use Rattle.search.proofs.CoverageByNumber.{nth-bytes}
+use Rattle.laws.proofs.Order.Bytes.{fours-in-nth}
 use Rattle.search.proofs.marks.four_at.Statement.{statement}
 use Rattle.search.proofs.marks.four_at.Tie as tie
 
@@ -55,7 +55,7 @@ cast-d c = omega (arith, c .shared-slice-known4 .given (c .before .before .befor
 
 returns : tie.Need-returns
 unfolding four
-returns c = let x = c .before .before .before .before in sym (nth-bytes (x .args .m) (x .args .fours .now) (x .args .k) (x .pre .0))
+returns c = let x = c .before .before .before .before in sym (fours-in-nth (x .args .m) (x .args .fours .now) (x .args .k) _ (x .pre .0))
 
 pub four-at-spec : {M : Type 1} → statement M
 four-at-spec =

@@ -1,7 +1,7 @@
 -- `search::marks::link_corner` meets its contract. Assumes nothing.
 use mathlib.Core.Path.{refl}
 use borrow.Author.Needs.{needs}
-use Rattle.search.specs.Tables.{linked}
+use Rattle.search.specs.inner.Tables.{linked}
 use Rattle.search.proofs.marks.link_corner.Statement.{statement}
 use Rattle.search.proofs.marks.link_corner.Tie as tie
 

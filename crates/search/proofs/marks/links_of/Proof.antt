@@ -3,7 +3,7 @@ use mathlib.Core.Logic.{⊎-elim, inl, inr}
 use Prim.Native.Nat.{_-_, _≤_}
 use native.Mathlib.Omega.{arith}
 use borrow.Author.Tests.{eqb-true, eqb-false}
-use Rattle.search.specs.Tables.{Below-16}
+use Rattle.laws.specs.inner.ListedFours.{Below}
 use Rattle.search.proofs.LinkLoop.{Linking, four-below, linking-start, linking-skip, linking-corners, linking-done}
 use Rattle.search.proofs.marks.links_of.Statement.{statement}
 use Rattle.search.proofs.marks.links_of.Tie as tie
@@ -15,7 +15,7 @@ abbrev μ-loop : tie.MeasureT-loop
 μ-loop fours m v w mark link₀ k₀ link k = m - k
 
 -- the candidate that was read has points below 16
-present : (c : tie.After-four-at Inv-loop μ-loop) → Below-16 (c .four-at .result)
+present : (c : tie.After-four-at Inv-loop μ-loop) → Below 16 (c .four-at .result)
 present c =
     let x = c .before .before .before .before .before in rw (c .four-at .ensures) (four-below (x .args .m) (x .args .fours .now) (c .before .before .before .loop .k) (x .pre .1) (omega arith))
 

@@ -5,7 +5,7 @@ use mathlib.Core.Logic.{⊎-elim}
 use Prim.Native.Nat.{ℕ, _+_, _*_, _-_, _≤_}
 use native.Mathlib.Omega.{arith}
 use lib.ListN.{length, getD, length-replicate, length-set}
-use Rattle.search.specs.Codes.{Owner-flags}
+use Rattle.search.specs.inner.Codes.{Owner-flags}
 use Rattle.search.proofs.Flags.{Flagging, flags-zero, flags-skip, flags-add, flagging-start, flagging-next, flagging-kept}
 use Rattle.search.proofs.marks.owners.Statement.{statement}
 use Rattle.search.proofs.marks.owners.Tie as tie

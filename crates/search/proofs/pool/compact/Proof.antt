@@ -6,8 +6,8 @@ use native.Mathlib.Omega.{arith}
 use borrow.Author.Needs.{needs}
 use Rattle.laws.specs.Check.{job}
 use Rattle.laws.specs.Lists.{job-lists}
+use Rattle.laws.proofs.Order.Bytes.{fours-in-length}
 use Rattle.search.proofs.Compacting.{Compacted, compacted-at, compacted-below, compacted-copy, compacted-filed, compacted-pass, compacted-start}
-use Rattle.search.proofs.Context.{fours-in-length}
 use Rattle.search.proofs.pool.compact.Statement.{statement}
 use Rattle.search.proofs.pool.compact.Tie as tie
 

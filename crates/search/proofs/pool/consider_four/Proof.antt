@@ -4,11 +4,10 @@ use native.Mathlib.Omega.{arith}
 use borrow.Author.Needs.{needs}
 use lib.ListN.{length}
 use Rattle.geometry.specs.Space.{points-in}
-use Rattle.search.specs.Filing.{passed}
-use Rattle.search.specs.Tables.{Stage}
+use Rattle.laws.specs.inner.NextFour.{Ordered}
+use Rattle.search.specs.inner.Filing.{passed}
 use Rattle.search.proofs.Considering.{entry-cast, entry-size, passed-low, passed-under, passed-not, stands, considered-filed}
 use Rattle.search.proofs.Gathering.{measured, stage-present, stage-small}
-use Rattle.search.proofs.FourSteps.{stage-ordered}
 use Rattle.search.proofs.pool.consider_four.Statement.{statement}
 use Rattle.search.proofs.pool.consider_four.Tie as tie
 
@@ -17,7 +16,7 @@ entry-requires c κs =
     let s = c .before .before .before .before .before .before in
     let a = s .args in
     let m = measured (a .points .now) (a .triangles .now) (a .kept .now) (a .table .now) (s .pre .0) in
-    let e : a .n ≡ length (points-in (a .points .now)) = s .pre .3 in (rw e (m .most), stage-ordered (s .pre .4), rw e (m .table))
+    let e : a .n ≡ length (points-in (a .points .now)) = s .pre .3 in (rw e (m .most), (s .pre .4), rw e (m .table))
 
 returns : tie.Need-returns
 returns c =
@@ -54,7 +53,7 @@ file-requires c κs =
     let a = s .args in
     let v = c .before .before .before .before .before .before .before .entry in
     let m = measured (a .points .now) (a .triangles .now) (a .kept .now) (a .table .now) (s .pre .0) in
-    let g : Stage (length (points-in (a .points .now))) (a .f) = rw (s .pre .3) at (s .pre .4) in
+    let g : Ordered (length (points-in (a .points .now))) (a .f) = rw (s .pre .3) at (s .pre .4) in
     let y = stands (a .points .now) (a .triangles .now) (a .kept .now) (a .table .now) (a .q) (a .n) (a .f) (s .pre .3) (v .ensures) (record { sfits = v .ok }) (c .before .before .before .before .before .before .if1 .left) (c .before .before .before .before .can-stand .ensures) (c .before .before .before .if3 .left) in (
       stage-present (a .points .now) (a .triangles .now) (a .kept .now) (a .table .now) (a .f) (s .pre .0) g,
       stage-small (m .most) g,

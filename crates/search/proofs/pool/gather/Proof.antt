@@ -6,8 +6,8 @@ use lib.ListN.{length}
 use Rattle.geometry.specs.Space.{points-in}
 use Rattle.laws.specs.Check.{job}
 use Rattle.laws.specs.Lists.{job-lists}
+use Rattle.laws.proofs.Order.NextFour.{Staged, staged-start, staged-within, staged-next, rank, rank-bounded, rank-rises}
 use Rattle.search.proofs.Gathering.{measured, Gathering, gathering-start, room-for, gathering-step, gathering-end}
-use Rattle.search.proofs.FourSteps.{Staged, staged-start, staged-within, staged-next, rank, rank-bounded, rank-rises}
 use Rattle.search.proofs.CoverageByNumber.{points-count}
 use Rattle.search.proofs.pool.gather.Statement.{statement}
 use Rattle.search.proofs.pool.gather.Tie as tie

@@ -8,7 +8,7 @@ use Rattle.laws.specs.Check.{job}
 use Rattle.laws.specs.Lists.{job-lists}
 use Rattle.laws.specs.inner.Listed.{edges-from}
 use Rattle.laws.proofs.Basics.Scan.{hit, miss}
-use Rattle.search.specs.Pierce.{pierced}
+use Rattle.search.specs.inner.Pierce.{pierced}
 use Rattle.search.proofs.Piercing.{pierced-start, pierced-step, pierced-end}
 use Rattle.search.proofs.pool.is_pierced.Statement.{statement}
 use Rattle.search.proofs.pool.is_pierced.Tie as tie

@@ -7,7 +7,7 @@ use borrow.Author.Needs.{needs, length-unmapped}
 use lib.ListN.{length}
 use Rattle.laws.specs.Check.{job}
 use Rattle.laws.specs.Lists.{job-lists}
-use Rattle.search.specs.Codes.{Bound-flags}
+use Rattle.search.specs.inner.Codes.{Bound-flags}
 use Rattle.search.specs.Entry.{Searched}
 use Rattle.search.proofs.RimFlags.{accepted-triangles-below-16, accepted-triangles-few, rim-flags}
 use Rattle.search.proofs.FromThreshold.{from-one, under-all}

@@ -8,7 +8,7 @@ use Rattle.search.proofs.settle.choose_behind.Reads as reads
 use Rattle.search.proofs.settle.choose_behind.Lts as lts
 use Rattle.search.proofs.codes.flip.Reads as flip-reads
 use Rattle.search.proofs.settle.consider.Reads as consider-reads
-use Rattle.search.specs.Tables.{Goes-on, Behind-set}
+use Rattle.search.specs.inner.Tables.{Goes-on, Behind-set}
 use Rattle.search.proofs.ChoiceLoops.{Behind-faces, choice-none, choice-both, choice-fewer, behind-faces-none, behind-faces-next, behind-set-none, behind-set-next, behind-set-skip, behind-set-all}
 
 abbrev Inv-loop2 : tie.InvT-loop2

@@ -6,7 +6,7 @@ use Rattle.search.proofs.settle.choose_on_rim.Tie as tie
 use Rattle.search.proofs.settle.choose_on_rim.Reads as reads
 use Rattle.search.proofs.settle.choose_on_rim.Lts as lts
 use Rattle.search.proofs.settle.consider.Reads as consider-reads
-use Rattle.search.specs.Tables.{Goes-on, On-rim}
+use Rattle.search.specs.inner.Tables.{Goes-on, On-rim}
 use Rattle.search.proofs.ChoiceLoops.{choice-none, choice-both, choice-fewer, on-rim-none, on-rim-next, on-rim-all}
 
 abbrev Inv-loop : tie.InvT-loop

@@ -15,7 +15,7 @@ use Rattle.search.proofs.thin.is_open.Tie as tie
 use Rattle.search.proofs.thin.is_open.Reads as reads
 use Rattle.search.proofs.thin.is_open.Lts as lts
 use Rattle.search.proofs.codes.flip.Reads as flip-reads
-use Rattle.search.specs.Codes.{open-code}
+use Rattle.search.specs.inner.Codes.{open-code}
 
 zero-test : (n : ℕ) → eqb n 0 ≡ not (ltb 0 n)
 zero-test n = go (decLt 0 n)

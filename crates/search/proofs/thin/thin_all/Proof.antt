@@ -9,7 +9,7 @@ use Rattle.search.proofs.thin.thin_all.Reads as reads
 use Rattle.search.proofs.thin.thin_all.Lts as lts
 use Rattle.search.proofs.marks.owners.Reads as owners-reads
 use Rattle.search.proofs.thin.thin.Reads as thin-reads
-use Rattle.search.specs.Tables.{Thinned-to, same, round}
+use Rattle.search.specs.inner.Tables.{Thinned-to, same, round}
 
 abbrev Inv-loop : tie.InvT-loop
 Inv-loop codes bound m own w₀ -i₀ w -i = (-i ≤ m) × Thinned-to codes bound own m (w₀ .mark) (w .mark)

@@ -10,7 +10,7 @@ use Rattle.geometry.specs.declared.tetrahedron.Four.{Four}
 use Rattle.laws.specs.inner.FaceCodes.{face-code, flip-code}
 use Rattle.laws.specs.Laws.{Tri, tri, faces}
 use Rattle.laws.specs.inner.Members.{Any}
-use Rattle.search.specs.Marks.{nth}
+use Rattle.search.specs.inner.Marks.{nth}
 
 -- the numbers of the outward faces of each candidate, four for each
 pub record Face-table (ps : List V3) (cs : List Four) (table : List ℕ) : Type 0 where

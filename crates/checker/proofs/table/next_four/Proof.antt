@@ -1,9 +1,9 @@
--- `search::pool::next_four` meets its contract. Assumes nothing.
+-- `checker::table::next_four` meets its contract. Assumes nothing.
 use native.Mathlib.Omega.{arith}
 use borrow.Author.Needs.{needs}
-use Rattle.search.specs.Filing.{next-a, next-b, next-c, next-d}
-use Rattle.search.proofs.pool.next_four.Statement.{statement}
-use Rattle.search.proofs.pool.next_four.Tie as tie
+use Rattle.laws.specs.inner.NextFour.{next-a, next-b, next-c, next-d}
+use Rattle.checker.proofs.table.next_four.Statement.{statement}
+use Rattle.checker.proofs.table.next_four.Tie as tie
 
 add-if1 : tie.Need-add-if1
 add-if1 c = search needs

@@ -9,7 +9,7 @@ use Rattle.geometry.specs.Space.{V3}
 use Rattle.geometry.specs.declared.tetrahedron.Four.{Four}
 use Rattle.laws.specs.Laws.{Job, entry, quality, law-1, lawful, worst}
 use Rattle.laws.specs.inner.Members.{In}
-use Rattle.search.specs.Part.{candidate, compatible, Ext}
+use Rattle.search.specs.inner.Part.{candidate, compatible, Ext}
 
 -- the four of a number
 abbrev pub nth : List Four → ℕ → Four

@@ -11,9 +11,9 @@ use Rattle.laws.specs.Lists.{job-lists}
 use Rattle.laws.specs.Check.{job, job-refusal}
 use Rattle.laws.specs.inner.Members.{In}
 use Rattle.laws.specs.inner.FaceCodes.{face-code, flip-code, Proper}
-use Rattle.search.specs.Part.{open-face, Fit}
-use Rattle.search.specs.Marks.{Pool, marked, Fills, Reduced}
-use Rattle.search.specs.Codes.{Face-table, Owns, Bound-flags, open-code}
+use Rattle.search.specs.inner.Part.{open-face, Fit}
+use Rattle.search.specs.inner.Marks.{Pool, marked, Fills, Reduced}
+use Rattle.search.specs.inner.Codes.{Face-table, Owns, Bound-flags, open-code}
 
 -- a job that is not refused, a pool of its candidates as bytes, the numbers of their faces, and the boundary as flags by face number
 pub record Context (ps : List ℤ) (ts es : List ℕ) (qs : List ℤ) (fours codes bound : List ℕ) (m : ℕ) : Type 0 where

@@ -12,9 +12,9 @@ use Rattle.laws.specs.Laws.{Job, tri, entry, quality, corner-of, fours-in, lawf
 use Rattle.laws.specs.Lists.{job-lists}
 use Rattle.laws.specs.Check.{job}
 use Rattle.laws.specs.inner.FaceCodes.{face-code, flip-code}
-use Rattle.search.specs.Marks.{nth, marked, Pool, Covers}
-use Rattle.search.specs.Codes.{Face-table, Owns, Owner-flags, open-code}
-use Rattle.search.specs.Steps.{Stuck}
+use Rattle.search.specs.inner.Marks.{nth, marked, Pool, Covers}
+use Rattle.search.specs.inner.Codes.{Face-table, Owns, Owner-flags, open-code}
+use Rattle.search.specs.inner.Steps.{Stuck}
 
 -- every number of the list is below the bound
 pub record All-below (bound n : ℕ) (xs : List ℕ) : Type 0 where
@@ -44,13 +44,7 @@ pub record Links-are (m : ℕ) (fours marks : List ℕ) (v w : ℕ) (flags : Lis
   pub yes : (a b : ℕ) → a < 16 → b < 16 → 0 < getD flags (a * 16 + b) 0 → Link m fours marks v w a b
   pub no : (a b : ℕ) → a < 16 → b < 16 → Link m fours marks v w a b → 0 < getD flags (a * 16 + b) 0
 
--- a four of points below 16, and the flags with the point a linked to each of its corners
-pub record Below-16 (f : Four) : Type 0 where
-  pub a : f .a < 16
-  pub b : f .b < 16
-  pub c : f .c < 16
-  pub d : f .d < 16
-
+-- the flags with the point a linked to each corner of a four
 unfoldable pub linked : (flags : List ℕ) → (a : ℕ) → Four → List ℕ
 linked flags a f = set (set (set (set flags (a * 16 + f .a) 1) (a * 16 + f .b) 1) (a * 16 + f .c) 1) (a * 16 + f .d) 1
 
@@ -96,13 +90,6 @@ pub data Thinned-to (codes bound own : List ℕ) (m : ℕ) : (ms ns : List ℕ) 
   round : {ls ms ns : List ℕ} (live : List ℕ) → Thinned-to codes bound own m ls ms → Owner-flags m codes ms 1 live → Thins codes bound own live m ms ns → Thinned-to codes bound own m ls ns
 
 -- ---- what is gathered and what is tried
--- a four of increasing present points, or the first number past the last one
-pub record Stage (n : ℕ) (f : Four) : Type 0 where
-  pub ab : f .a < f .b
-  pub bc : f .b < f .c
-  pub cd : f .c < f .d
-  pub below : f .d < n
-
 -- the pool of a table: its fours, face numbers and qualities
 pub record Filed (ps : List ℤ) (ts es : List ℕ) (qs : List ℤ) (fours codes quals : List ℕ) (m : ℕ) : Type 0 where
   pub few : m ≤ 1820
