@@ -1,45 +1,20 @@
 -- What the judge's functions ask of each other, and the judge's answer. Assumes nothing.
-use mathlib.Core.Path.{_≡_, refl, sym, ap, _∙_}
-use mathlib.Core.Bool.{Bool, true, false, _&&_, not}
-use mathlib.Core.List.{List, []}
+use mathlib.Core.Path.{_≡_, refl, sym, _∙_}
+use mathlib.Core.Bool.{true, _&&_}
+use mathlib.Core.List.{List}
 use Prim.Native.Nat.{ℕ, zero, suc, _/_, _%_}
 use native.Mathlib.Omega.{arith}
 use native.Mathlib.Decide.{ℕ-discrete}
-use borrow.Author.Tests.{eq-eqb, ne-eqb, eqb-true, leb-true, not-false}
-use lib.Dec.{eqb, leb}
+use borrow.Author.Tests.{eq-eqb, ne-eqb}
 use lib.ListN.{length}
-use lib.IntN.{ℤ}
 use Rattle.geometry.specs.Space.{points-in}
-use Rattle.laws.specs.Laws.{Job, choose, law-1, broken, worst, lawful}
+use Rattle.laws.specs.Laws.{Job, law-1, broken, worst, lawful}
 use Rattle.laws.specs.Lists.{Lists, with-table}
-use Rattle.laws.specs.Check.{job, job-refusal, any-tri-bad}
+use Rattle.laws.specs.Check.{job, job-refusal}
 use Rattle.judge.specs.Judge.{judged, Judge-as, Judge-says}
-use Rattle.laws.specs.inner.Listed.{triangles-in}
-use Rattle.laws.specs.inner.Unmeasured.{Tabled}
-use Rattle.laws.specs.inner.ListedFours.{fours-listed, Well-listed}
-use Rattle.laws.proofs.Basics.Tests.{and-true}
-use Rattle.laws.proofs.Checker.Points.{points-count}
-use Rattle.laws.proofs.Choice.Conditions.{accepted, keeps}
+use Rattle.laws.specs.inner.ListedFours.{fours-listed}
+use Rattle.laws.proofs.Choice.Conditions.{keeps}
 use Rattle.laws.proofs.Judge.LawChain.{sees-worst}
-
--- ---- what an accepted job has
-module _ (l : Lists) (h : job-refusal l ≡ 0) where
-  pub accepted-table : Tabled (l .points) (l .table)
-  unfolding job
-  accepted-table =
-      let a = accepted l h in
-      let p = and-true (eqb (length (l .points) % 3) 0) (leb 4 (length (points-in (l .points))) && leb (length (points-in (l .points))) 16) (a .shape) in
-      let q = and-true (leb 4 (length (points-in (l .points)))) (leb (length (points-in (l .points))) 16) (p .1) in
-      record { few = leb-true (length (points-in (l .points))) 16 (q .1); near = a .near; full = eqb-true (length (l .table)) (choose (length (points-in (l .points))) 4) (a .table-shape) }
-
-  pub accepted-triangles : any-tri-bad (length (points-in (l .points))) (triangles-in (l .triangles)) ≡ false
-  unfolding job
-  accepted-triangles = accepted l h .tris-good
-
-  pub listed-in-order : (ls : List ℕ) {r : Bool} → r ≡ law-1 (length (l .points) / 3) (fours-listed ls) → not r ≡ false → Well-listed (l .points) ls
-  listed-in-order ls {r} e n =
-      let t = accepted-table in
-      record { near = t .near; few = t .few; order = ap (λ (k : ℕ). law-1 k (fours-listed ls)) (points-count (l .points)) ∙ sym e ∙ not-false r n }
 
 -- ---- the length of the list
 pub part-of-a-four : (j : Job) (ls : List ℕ) → (length ls % 4 ≡ 0 → ⊥) → 1 ≡ judged j ls

@@ -38,17 +38,17 @@ module _ {l m : Lists} (a : Alike l m) where
         found =
             λ fs b.
             let w = s .found fs (best-alike fs b) in
-            let p = a .worth fs (best-alike fs b .keeps) in ((w .0 .0, (w .0 .1, w .0 .2 ∙ sym p)), w .1);
+            let p = a .worth fs (best-alike fs b .keeps) in ((w .0 .0, w .0 .1, w .0 .2 ∙ sym p), w .1);
         none-there = λ n. s .none-there (λ fs. sym (lawful-alike fs) ∙ n fs);
       }
 
-  as-alike : (n : ℕ) {r : Found} {o o-now : List ℕ} → Search-as n (job l) r o o-now → Search-as n (job m) r o o-now
+  as-alike : (n : ℕ) (r : Found) (o o-now : List ℕ) → Search-as n (job l) r o o-now → Search-as n (job m) r o o-now
   unfolding Search-as
-  as-alike zero s = searched-alike s
-  as-alike (suc n) s = s
+  as-alike zero r o o-now s = searched-alike s
+  as-alike (suc n) r o o-now s = s
 
 pub alike-searched : Alike-searched
 unfolding Alike-searched Search-says
 alike-searched l m a r o o-now s =
     subst (λ (n : ℕ). Search-as (or-else n (cond (ltb (length o) 7280) 14 0)) (job m) r o o-now) (sym (a .refusal))
-    (as-alike a (or-else (job-refusal l) (cond (ltb (length o) 7280) 14 0)) s)
+    (as-alike a (or-else (job-refusal l) (cond (ltb (length o) 7280) 14 0)) r o o-now s)

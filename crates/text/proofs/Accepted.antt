@@ -13,7 +13,7 @@ use Rattle.laws.specs.Laws.{entry, quality, lawful, worst, worst-from, bytes, f
 use Rattle.laws.specs.Check.{job, job-refusal}
 use Rattle.laws.specs.Promise.{Fits}
 use Rattle.laws.proofs.Choice.Conditions.{keeps, accepted}
-use Rattle.judge.proofs.Judging.{accepted-table, accepted-triangles}
+use Rattle.laws.proofs.Checker.AcceptedJob.{accepted-table, accepted-triangles}
 use Rattle.laws.proofs.Order.Bytes.{length-bytes}
 use Rattle.laws.proofs.Choice.Promises.{fits}
 use Rattle.text.specs.Print.{boundary-faces, H-line, H-lines, filling-out}

@@ -103,3 +103,9 @@ accepted l h =
       entries = p12 .0;
       measured = p13 .0;
     }
+
+-- the other way round: a job of which no test holds is not refused
+pub accepted-of : {l : Lists} → Accepted l → job-refusal l ≡ 0
+unfolding job-refusal refusals refusal first-refusal
+accepted-of a =
+    rw (a .shape, a .near, a .places, a .tri-shape, a .tris-good, a .tris-unlike, a .edges-even, a .kept-shape, a .kept-good, a .table-shape, a .entries, a .measured)

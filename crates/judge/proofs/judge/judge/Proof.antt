@@ -1,7 +1,8 @@
 -- `judge::judge::judge` meets its contract. Assumes nothing.
 use mathlib.Core.Path.{sym, _∙_}
 use Rattle.laws.specs.Lists.{job-lists}
-use Rattle.judge.proofs.Judging.{accepted-table, refusal-said, broken-law-said, lawful-said, lawful-order}
+use Rattle.laws.proofs.Checker.AcceptedJob.{accepted-table}
+use Rattle.judge.proofs.Judging.{refusal-said, broken-law-said, lawful-said, lawful-order}
 use borrow.Author.Needs.{needs}
 use Rattle.judge.proofs.judge.judge.Statement.{statement}
 use Rattle.judge.proofs.judge.judge.Tie as tie

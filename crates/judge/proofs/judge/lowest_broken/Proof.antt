@@ -11,7 +11,8 @@ use Rattle.judge.specs.Judge.{judged}
 use Rattle.laws.specs.inner.ListedFours.{fours-listed, Well-listed}
 use Rattle.laws.proofs.Checker.Chain.{stop, pass}
 use Rattle.laws.proofs.Judge.LawChain.{at-1, at-2, at-3, at-4, at-5, at-6, at-7, after-1, after-2, after-3, after-4, after-5, after-6}
-use Rattle.judge.proofs.Judging.{accepted-table, accepted-triangles, listed-in-order, part-of-a-four, whole-fours}
+use Rattle.laws.proofs.Checker.AcceptedJob.{accepted-table, accepted-triangles, listed-in-order}
+use Rattle.judge.proofs.Judging.{part-of-a-four, whole-fours}
 use borrow.Author.Needs.{needs}
 use Rattle.judge.proofs.judge.lowest_broken.Statement.{statement}
 use Rattle.judge.proofs.judge.lowest_broken.Tie as tie
