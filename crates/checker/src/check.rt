@@ -16,12 +16,12 @@ ghost use lib.IntN.{pos};
 ghost use Rattle.geometry.specs.Space.{of, equal, points-in, point, same-place};
 ghost use Rattle.laws.specs.Laws.{choose};
 ghost use Rattle.laws.specs.Lists.{job-lists};
-ghost use Rattle.laws.specs.Check.{place-taken, two-alike, edge-bad, entry-bad, any-entry-bad, job-refusal};
-ghost use Rattle.laws.specs.inner.Listed.{points-right, kept-right, kept-in, edge-at, edge-wrong};
+ghost use Rattle.laws.specs.Check.{points-right, place-taken, two-alike, edge-bad, entry-bad, any-entry-bad, job-refusal};
+ghost use Rattle.laws.specs.inner.Listed.{kept-right, kept-in, edge-at, edge-wrong};
 
 // Whether number 2 lets the points pass: whole points, 4 to 16 of them.
 fn points_fit(points: &[i32]) -> bool
-    ensures { λ r. ⌜ r ≡ points-right (now (points .entry)) ⌝ }
+    ensures { λ r. ⌜ r ≡ points-right 16 (now (points .entry)) ⌝ }
 {
     let n = points.len() / 3;
     (points.len() % 3 == 0) & ((4 <= n) & (n <= 16))

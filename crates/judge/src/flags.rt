@@ -8,7 +8,7 @@ ghost use Rattle.laws.specs.inner.FaceCodes.{face-code};
 ghost use Rattle.laws.specs.inner.FaceFlags.{flagged, flag};
 
 // The number of the triangle a, b, c: its points to the base 16, the least one first.
-pub fn face_code(a: usize, b: usize, c: usize) -> usize
+pub(crate) fn face_code(a: usize, b: usize, c: usize) -> usize
     requires { ⌜ (a < 16) × (b < 16) × (c < 16) ⌝ }
     ensures { λ r. ⌜ r ≡ face-code (tri a b c) ⌝ }
 {
@@ -31,7 +31,7 @@ pub fn is_flagged(flags: &[u8; 4096], a: usize, b: usize, c: usize) -> bool
 }
 
 // Raises the flag of a triangle; whether it was down before.
-pub fn raise(flags: &mut [u8; 4096], a: usize, b: usize, c: usize) -> bool
+pub(crate) fn raise(flags: &mut [u8; 4096], a: usize, b: usize, c: usize) -> bool
     requires { ⌜ (a < 16) × (b < 16) × (c < 16) ⌝ }
     ensures { λ r. ⌜ (r ≡ not (flagged (now (flags .entry)) (tri a b c))) × (now (flags .exit) ≡ flag (now (flags .entry)) (tri a b c)) ⌝ }
 {

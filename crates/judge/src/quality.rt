@@ -62,7 +62,7 @@ fn lesser(a: u32, b: u32) -> u32
 }
 
 // The worst quality of a list, 1,000,000 for an empty one.
-pub fn worst_of(points: &[i32], table: &[i32], list: &[u8]) -> u32
+pub(crate) fn worst_of(points: &[i32], table: &[i32], list: &[u8]) -> u32
     requires { ⌜ Tabled (now points) (now table) × (law-1 (length (points-in (now points))) (fours-listed (now list)) ≡ true) ⌝ }
     ensures { λ r. ⌜ r ≡ worst (job (with-table (now (points .entry)) (now (table .entry)))) (fours-listed (now (list .entry))) ⌝ }
 {

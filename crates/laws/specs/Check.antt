@@ -87,6 +87,10 @@ solid-unmeasured j =
     over n 0 (λ a. over (n - suc a) (suc a) (λ b. over (n - suc b) (suc b) (λ c. over (n - suc c) (suc c) (λ d.
     solid (j .points) (four a b c d) && unmeasured (entry j (four a b c d))))))
 
+-- whole points, 4 of them at least and `most` at most
+abbrev pub points-right : (most : ℕ) → (points : List ℤ) → Bool
+points-right most cs = eqb (length cs % 3) 0 && (leb 4 (length (points-in cs)) && leb (length (points-in cs)) most)
+
 unfoldable pub job : Lists → Job
 job l =
     record {
@@ -115,7 +119,7 @@ refusals l =
     let j = job l in
     let n = length (j .points) in
     let edges = directed (j .triangles) in
-    refusal 2 (not (eqb (length (l .points) % 3) 0 && (leb 4 n && leb n 16))) ∷
+    refusal 2 (not (points-right 16 (l .points))) ∷
     refusal 3 (any-far (l .points)) ∷
     refusal 4 (two-alike (j .points)) ∷
     refusal 5 (not (eqb (length (l .triangles) % 3) 0 && (leb 4 (length (l .triangles) / 3) && leb (length (l .triangles) / 3) 560))) ∷

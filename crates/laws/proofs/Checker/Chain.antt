@@ -10,8 +10,8 @@ use Rattle.geometry.specs.Range.{any-far}
 use Rattle.geometry.specs.Space.{points-in}
 use Rattle.laws.specs.Laws.{choose}
 use Rattle.laws.specs.Lists.{Lists, with-table}
-use Rattle.laws.specs.Check.{two-alike, any-tri-bad, tris-alike, directed, unmatched, edge-bad, any-entry-bad, solid-unmeasured, job, refusal, first-refusal, refusals, job-refusal}
-use Rattle.laws.specs.inner.Listed.{points-right, triangles-right, kept-right, triangles-in, kept-in}
+use Rattle.laws.specs.Check.{points-right, two-alike, any-tri-bad, tris-alike, directed, unmatched, edge-bad, any-entry-bad, solid-unmeasured, job, refusal, first-refusal, refusals, job-refusal}
+use Rattle.laws.specs.inner.Listed.{triangles-right, kept-right, triangles-in, kept-in}
 use Rattle.laws.proofs.Checker.Points.{points-count}
 use Rattle.laws.proofs.Checker.FourLoops.{unmeasured-bare}
 
@@ -107,7 +107,7 @@ module _ (l : Lists) where
 -- the number of points, said in two ways, stands in three tests
 by-count : Lists → (n : ℕ) → ℕ
 by-count l n =
-    cond (not (points-right (l .points))) 2
+    cond (not (points-right 16 (l .points))) 2
     (cond (any-far (l .points)) 3
     (cond (two-alike (points-in (l .points))) 4
     (cond (not (triangles-right (l .triangles))) 5
@@ -116,6 +116,6 @@ by-count l n =
     (cond (unmatched (directed (triangles-in (l .triangles))) (directed (triangles-in (l .triangles)))) 8
     (cond (not (kept-right (l .kept))) 9 (cond (edge-bad n (kept-in (l .kept))) 10 (cond (not (eqb (length (l .table)) (choose n 4))) 11 (from-12 l))))))))))
 
-pub at-2 : (l : Lists) → Chain (job-refusal l) (not (points-right (l .points))) 2 (from-3 l)
+pub at-2 : (l : Lists) → Chain (job-refusal l) (not (points-right 16 (l .points))) 2 (from-3 l)
 unfolding job-refusal refusals refusal first-refusal job by-count from-3 from-4 from-5 from-6 from-7 from-8 from-9 from-10 from-11 from-12 from-13
 at-2 l = record { is = ap (by-count l) (points-count (l .points)) }

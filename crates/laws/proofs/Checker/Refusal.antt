@@ -11,8 +11,8 @@ use lib.ListN.{length}
 use lib.IntN.{ℤ}
 use Rattle.geometry.specs.Space.{points-in}
 use Rattle.laws.specs.Laws.{tri}
-use Rattle.laws.specs.Check.{tri-bad, any-tri-bad}
-use Rattle.laws.specs.inner.Listed.{points-right, triangles-right, triangles-in, tri-at, tris-from, Within, All-within}
+use Rattle.laws.specs.Check.{points-right, tri-bad, any-tri-bad}
+use Rattle.laws.specs.inner.Listed.{triangles-right, triangles-in, tri-at, tris-from, Within, All-within}
 use Rattle.laws.proofs.Checker.Points.{points-count}
 use Rattle.laws.proofs.Basics.Scan.{neither}
 use Rattle.laws.proofs.Checker.Rest.{tris-start, bad-step}
@@ -26,7 +26,7 @@ pub record Few (cs : List ℤ) : Type 0 where
   pub few : length (points-in cs) ≤ 16
   pub short : length cs ≤ 48
 
-pub points-few : (cs : List ℤ) → points-right cs ≡ true → Few cs
+pub points-few : (cs : List ℤ) → points-right 16 cs ≡ true → Few cs
 points-few cs h =
     let p = both (eqb (length cs % 3) 0) (leb 4 (length (points-in cs)) && leb (length (points-in cs)) 16) h in
     let q = both (leb 4 (length (points-in cs))) (leb (length (points-in cs)) 16) (p .1) in

@@ -10,10 +10,7 @@ use Rattle.geometry.specs.Space.{points-in}
 use Rattle.laws.specs.Laws.{Tri, tri, Edge, same-tri, reversed}
 use Rattle.laws.specs.Check.{tris-in, edges-in, how-often}
 
--- lengths that numbers 2, 5 and 9 let pass
-abbrev pub points-right : List ℤ → Bool
-points-right cs = eqb (length cs % 3) 0 && (leb 4 (length (points-in cs)) && leb (length (points-in cs)) 16)
-
+-- lengths that numbers 5 and 9 let pass
 abbrev pub triangles-right : List ℕ → Bool
 triangles-right ts = eqb (length ts % 3) 0 && (leb 4 (length ts / 3) && leb (length ts / 3) 560)
 
