@@ -40,6 +40,7 @@ module _ {ps : List ℤ} {ts es : List ℕ} {qs : List ℤ} {fours codes bound :
   context-sorted = pool-sorted (x .pool)
 
   context-small : length (job (job-lists ps ts es qs) .points) ≤ 16
+  unfolding job
   context-small =
       let n = length (job (job-lists ps ts es qs) .points) in
       leb-true n 16 (and-true (leb 4 n) (leb n 16) (and-true (eqb (length ps % 3) 0) (leb 4 n && leb n 16) (accepted (job-lists ps ts es qs) (x .accepted) .shape) .1) .1)

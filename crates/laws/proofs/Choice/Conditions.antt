@@ -12,7 +12,7 @@ use Rattle.geometry.specs.declared.tetrahedron.Four.{Four}
 use Rattle.geometry.specs.Range.{any-far}
 use Rattle.laws.specs.Laws.{Job, law-1, law-2, law-3, law-4, law-5, law-6, law-7, broken, lawful, choose}
 use Rattle.laws.specs.Lists.{Lists}
-use Rattle.laws.specs.Check.{job, refusal, first-refusal, refusals, job-refusal, two-alike, any-tri-bad, tris-alike, directed, unmatched, edge-bad, any-entry-bad, solid-unmeasured}
+use Rattle.laws.specs.Check.{points-right, job, refusal, first-refusal, refusals, job-refusal, two-alike, any-tri-bad, tris-alike, directed, unmatched, edge-bad, any-entry-bad, solid-unmeasured}
 
 -- a chain of tests gave 0: its first test failed, and the rest gave 0
 pub test-passed : (b : Bool) (n : ℕ) {x : ℕ} → cond b (suc n) x ≡ 0 → (b ≡ false) × (x ≡ 0)
@@ -59,7 +59,7 @@ lawful-of k = rw (k .l1, k .l2, k .l3, k .l4, k .l5, k .l6, k .l7)
 
 -- a job that is not refused: a field for each of the numbers 2 to 13, in their order
 pub record Accepted (l : Lists) : Type 0 where
-  pub shape : (eqb (length (l .points) % 3) 0 && (leb 4 (length (job l .points)) && leb (length (job l .points)) 16)) ≡ true
+  pub shape : points-right 16 (l .points) ≡ true
   pub near : any-far (l .points) ≡ false
   pub places : two-alike (job l .points) ≡ false
   pub tri-shape : (eqb (length (l .triangles) % 3) 0 && (leb 4 (length (l .triangles) / 3) && leb (length (l .triangles) / 3) 560)) ≡ true
@@ -77,7 +77,7 @@ unfolding job-refusal refusals refusal first-refusal
 accepted l h =
     let j = job l in
     let n = length (j .points) in
-    let p2 = test-passed (not (eqb (length (l .points) % 3) 0 && (leb 4 n && leb n 16))) 1 h in
+    let p2 = test-passed (not (points-right 16 (l .points))) 1 h in
     let p3 = test-passed (any-far (l .points)) 2 (p2 .1) in
     let p4 = test-passed (two-alike (j .points)) 3 (p3 .1) in
     let p5 = test-passed (not (eqb (length (l .triangles) % 3) 0 && (leb 4 (length (l .triangles) / 3) && leb (length (l .triangles) / 3) 560))) 4 (p4 .1) in
@@ -90,7 +90,7 @@ accepted l h =
     let p12 = test-passed (any-entry-bad (l .table)) 11 (p11 .1) in
     let p13 = test-passed (solid-unmeasured j) 12 (p12 .1) in
     record {
-      shape = not-false (eqb (length (l .points) % 3) 0 && (leb 4 n && leb n 16)) (p2 .0);
+      shape = not-false (points-right 16 (l .points)) (p2 .0);
       near = p3 .0;
       places = p4 .0;
       tri-shape = not-false (eqb (length (l .triangles) % 3) 0 && (leb 4 (length (l .triangles) / 3) && leb (length (l .triangles) / 3) 560)) (p5 .0);

@@ -45,7 +45,7 @@ places-rise n f g rf rg lf lg b = place-rises n f g (record { up = rf; below = l
 
 -- at most C(16, 4) = 1,820 fours of 4 bytes each
 pub fits : Fits
-unfolding Fits
+unfolding Fits job
 fits l fs r k =
     let n = length (job l .points) in
     let a = and-true (leb 4 n) (leb n 16) (and-true (eqb (length (l .points) % 3) 0) (leb 4 n && leb n 16) (accepted l r .shape) .1) in
