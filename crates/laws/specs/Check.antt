@@ -72,7 +72,7 @@ unfoldable pub any-entry-bad : List ℤ → Bool
 any-entry-bad [] = false
 any-entry-bad (v ∷ vs) = entry-bad v || any-entry-bad vs
 
--- a solid four unmeasured, among all fours of n points
+-- of unknown quality; not the same as barred
 unfoldable pub unmeasured : ℤ → Bool
 unmeasured (pos n) = false
 unmeasured (negsuc n) = true
@@ -81,6 +81,7 @@ unfoldable pub over : (left from : ℕ) → (ℕ → Bool) → Bool
 over zero i f = false
 over (suc n) i f = f i || over n (suc i) f
 
+-- a solid four unmeasured, among all fours of n points
 unfoldable pub solid-unmeasured : Job → Bool
 solid-unmeasured j =
     let n = length (j .points) in

@@ -22,7 +22,7 @@ pub record Edge : Type 0 where
   pub a : ℕ
   pub b : ℕ
 
--- points, outward triangles, kept edges, and a quality for every four
+-- a problem instance: points, outward triangles (the boundary triangulation), kept edges (constrained edges), and a quality for every four
 pub record Job : Type 0 where
   pub points : List V3
   pub triangles : List Tri
@@ -39,7 +39,7 @@ unfoldable pub before-first : (left i : ℕ) → (n k : ℕ) → ℕ
 before-first zero i n k = 0
 before-first (suc l) i n k = choose (n - suc i) k + before-first l (suc i) n k
 
--- how many fours stand before one
+-- how many fours stand before one: its lexicographic rank
 unfoldable pub place : (n : ℕ) → Four → ℕ
 place n f =
     before-first (f .a) 0 n 3 + before-first (f .b - suc (f .a)) (suc (f .a)) n 2 + before-first (f .c - suc (f .b)) (suc (f .b)) n 1
@@ -65,7 +65,7 @@ law-1 n [] = true
 law-1 n (f ∷ []) = rising f && ltb (f .d) n
 law-1 n (f ∷ g ∷ fs) = (rising f && ltb (f .d) n) && (four-before f g && law-1 n (g ∷ fs))
 
--- LAW 2: each is solid and has a quality above 0
+-- LAW 2: each is solid and has a quality above 0; an entry of 0 bars the four (a forbidden element)
 unfoldable pub law-2 : Job → List Four → Bool
 law-2 j [] = true
 law-2 j (f ∷ fs) = (solid (j .points) f && ltb 0 (quality (entry j f))) && law-2 j fs
@@ -83,6 +83,7 @@ law-3 j [] = true
 law-3 j (f ∷ fs) = interior-empty (j .points) f && law-3 j fs
 
 -- LAW 4: outward faces; turning the numbers round changes nothing
+-- the outward faces: oriented facets of a positively oriented tetrahedron
 unfoldable pub faces : Four → List Tri
 faces f =
     tri (f .a) (f .c) (f .b) ∷ tri (f .a) (f .b) (f .d) ∷ tri (f .a) (f .d) (f .c) ∷ tri (f .b) (f .c) (f .d) ∷ []
@@ -144,7 +145,7 @@ corners-from (suc n) p fs = is-corner p fs && corners-from n (suc p) fs
 unfoldable pub law-6 : Job → List Four → Bool
 law-6 j fs = corners-from (length (j .points)) 0 fs
 
--- LAW 7: every kept edge is an edge of some tetrahedron
+-- LAW 7: every kept edge (constrained edge) is an edge of some tetrahedron
 unfoldable pub holds-edge : Edge → List Four → Bool
 holds-edge e [] = false
 holds-edge e (f ∷ fs) = (corner-of (e .a) f && corner-of (e .b) f) || holds-edge e fs
@@ -164,10 +165,11 @@ broken j fs =
     (cond (not (law-3 j fs)) 3
     (cond (not (law-4 j fs)) 4 (cond (not (law-5 j fs)) 5 (cond (not (law-6 j fs)) 6 (cond (law-7 j fs) 0 7))))))
 
+-- a lawful filling: a feasible solution, a conforming triangulation of the cavity
 unfoldable pub lawful : Job → List Four → Bool
 lawful j fs = eqb (broken j fs) 0
 
--- worst quality: the least entry
+-- worst quality: the least entry, the objective that is maximized
 unfoldable pub worst-from : (so-far : ℕ) → Job → List Four → ℕ
 worst-from w j [] = w
 worst-from w j (f ∷ fs) = worst-from (min w (quality (entry j f))) j fs
@@ -181,7 +183,7 @@ list-before fs [] = false
 list-before [] (g ∷ gs) = true
 list-before (f ∷ fs) (g ∷ gs) = four-before f g || (not (four-before g f) && list-before fs gs)
 
--- THE CHOICE: lawful, of greatest worst quality, and before all its equals
+-- THE CHOICE: lawful, of greatest worst quality, and before all its equals (the optimum, ties broken by lexicographic order)
 pub record Best (j : Job) (fs : List Four) : Type 0 where
   pub keeps : lawful j fs ≡ true
   pub least :
