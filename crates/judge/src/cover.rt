@@ -9,7 +9,7 @@ ghost use Rattle.laws.specs.inner.Listed.{kept-in};
 ghost use Rattle.laws.specs.inner.ListedFours.{fours-listed};
 
 // Whether the point p is a corner of f.
-fn has_corner(f: Four, p: usize) -> bool
+pub fn has_corner(f: Four, p: usize) -> bool
     ensures { λ r. ⌜ r ≡ corner-of p f ⌝ }
 {
     ((p == f.a) | (p == f.b)) | ((p == f.c) | (p == f.d))

@@ -1,4 +1,4 @@
--- What is promised of fillings. Each statement is a type whose proof is owed. Assumes nothing.
+-- What is promised of fillings. Each statement is a type, proved in proofs/Choice/Promises. Assumes nothing.
 use mathlib.Core.Path.{_≡_}
 use mathlib.Core.Bool.{Bool, true, false, _&&_, _||_, not, cond}
 use mathlib.Core.List.{List, [], _∷_, _++_}

@@ -46,7 +46,7 @@ pub fn owns(codes: &[u16], k: usize, c: usize) -> bool
     false
 }
 
-// How many of the candidates with mark v own each face, counted up to 255.
+// A flag for each face that a candidate with mark v owns. How high it counts, for the choice of the next face, is left free.
 pub fn owners(codes: &[u16], m: usize, mark: [u8; 1820], v: u8) -> Flags
     requires { ⌜ (m ≤ 1820) × All-below 4096 (m * 4) (now codes) ⌝ }
     ensures { λ r. ⌜ Owner-flags m (now (codes .entry)) mark v (r .flag) ⌝ }

@@ -10,11 +10,28 @@ use borrow.Author.Tests.{ltb-true, eqb-true, ltb-false, lt-ltb, eq-eqb}
 use lib.Dec.{ltb, eqb}
 use Rattle.geometry.specs.declared.tetrahedron.Four.{Four}
 use Rattle.laws.specs.Laws.{four-before}
+use Rattle.laws.specs.Fours.{same-four}
 use Rattle.laws.proofs.Basics.Tests.{and-of, and-true, or-left, or-right, or-true, true-or-false}
 
 -- ---- equality
 pub four-equal : {a b c d a′ b′ c′ d′ : ℕ} → a ≡ a′ → b ≡ b′ → c ≡ c′ → d ≡ d′ → _≡_ {A = Four} (record { a = a; b = b; c = c; d = d }) (record { a = a′; b = b′; c = c′; d = d′ })
 four-equal p q r s = cc
+
+-- two fours are the same where their numbers are
+pub same-four-true : (f g : Four) → same-four f g ≡ true → f ≡ g
+unfolding same-four
+same-four-true f g p =
+    let q = and-true (eqb (f .a) (g .a) && eqb (f .b) (g .b)) (eqb (f .c) (g .c) && eqb (f .d) (g .d)) p in
+    let u = and-true (eqb (f .a) (g .a)) (eqb (f .b) (g .b)) (q .0) in
+    let v = and-true (eqb (f .c) (g .c)) (eqb (f .d) (g .d)) (q .1) in
+    four-equal (eqb-true (f .a) (g .a) (u .0)) (eqb-true (f .b) (g .b) (u .1)) (eqb-true (f .c) (g .c) (v .0)) (eqb-true (f .d) (g .d) (v .1))
+
+pub same-four-of : (f g : Four) → f ≡ g → same-four f g ≡ true
+unfolding same-four
+same-four-of f g e =
+    and-of
+    (and-of (eq-eqb (f .a) (g .a) (ap (λ (x : Four). x .a) e)) (eq-eqb (f .b) (g .b) (ap (λ (x : Four). x .b) e)))
+    (and-of (eq-eqb (f .c) (g .c) (ap (λ (x : Four). x .c) e)) (eq-eqb (f .d) (g .d) (ap (λ (x : Four). x .d) e)))
 
 pub four-discrete : Discrete Four
 four-discrete f g = go (ℕ-discrete (f .a) (g .a)) (ℕ-discrete (f .b) (g .b)) (ℕ-discrete (f .c) (g .c)) (ℕ-discrete (f .d) (g .d))

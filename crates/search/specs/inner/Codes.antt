@@ -1,4 +1,4 @@
--- Directed triangles by number: turned so that the least point comes first, as three digits to the base 16. Assumes nothing: these are definitions.
+-- Which candidates own which faces, by the number of a directed triangle. Assumes nothing: these are definitions.
 use mathlib.Core.Path.{_≡_}
 use mathlib.Core.Bool.{Bool, _&&_, _||_, not, cond}
 use mathlib.Core.List.{List}
