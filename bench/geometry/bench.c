@@ -92,6 +92,7 @@ static void compare(points *cases) {
         struct measure m = geometry_measure(p, 12);
         if (v.is_refused || v.value != d || m.refused != 0 || m.d != (double)llabs(d) ||
             geometry_is_inside(p, COORDINATES, 0, 1, 2, 3, 4) != inside(p, p + 12) ||
+            geometry_is_inside(p, COORDINATES, 1, 0, 2, 3, 4) != inside(p, p + 12) ||
             geometry_are_apart(p, COORDINATES, 0, 4) != (first_parting(p) < 44)) {
             printf("differs from plain C\n");
             exit(1);

@@ -9,26 +9,26 @@ use geometry_c::checked::solid;
 use geometry_c::checked::turned;
 use geometry_c::checked::volume_of;
 use libc::STDOUT_FILENO;
-
-fn print(text: &[u8]) {
-    io::write_all(STDOUT_FILENO, text);
-}
+use lines::list::integers;
+use lines::tally::print;
+use lines::tally::print_count;
+use lines::text::after;
+use lines::text::before;
+use lines::text::past;
 
 // v, and 0 where v is negative.
 fn positive_part(v: i64) -> u64 {
     if v < 0 { 0 } else { v as u64 }
 }
 
-// D of f as it is given; a negative one is the negative of what turning f round makes of it.
-fn print_volume(points: &[i32], f: Four) {
-    let v = volume_of(points, f).value;
-    if v < 0 {
-        let w = volume_of(points, turned(points, f)).value;
+// D of f as it is given: what turning f round makes of it, with its sign.
+fn print_volume(what: &[u8], points: &[i32], f: Four) {
+    print(what);
+    if volume_of(points, f).value < 0 {
         print(b"-");
-        io::print_decimal(STDOUT_FILENO, positive_part(w));
-    } else {
-        io::print_decimal(STDOUT_FILENO, positive_part(v));
     }
+    let size = volume_of(points, turned(points, f)).value;
+    io::print_decimal(STDOUT_FILENO, positive_part(size));
     if solid(points, f) == NO {
         print(b" (flat)");
     }
@@ -45,11 +45,10 @@ fn one_more(n: u64, answer: i32) -> u64 {
 
 // How many corners of g lie strictly inside f.
 fn corners_inside(points: &[i32], f: Four, g: Four) -> u64 {
-    let t = turned(points, f);
-    let a = one_more(0, inside(points, t, g.a));
-    let b = one_more(a, inside(points, t, g.b));
-    let c = one_more(b, inside(points, t, g.c));
-    one_more(c, inside(points, t, g.d))
+    let a = one_more(0, inside(points, f, g.a));
+    let b = one_more(a, inside(points, f, g.b));
+    let c = one_more(b, inside(points, f, g.c));
+    one_more(c, inside(points, f, g.d))
 }
 
 // f in the order that puts the edge from a to b in the k-th of the six places of an edge.
@@ -85,12 +84,8 @@ fn is_same_in_order(points: &[i32], f: Four, g: Four, answer: i32) -> bool {
 // The answer is the same whichever is named first, and however the corners are ordered.
 fn print_apart(points: &[i32], f: Four, g: Four) {
     let answer = apart(points, f, g);
-    if !is_same_in_order(points, f, g, answer) {
+    if !is_same_in_order(points, f, g, answer) || !is_same_in_order(points, g, f, answer) {
         print(b"apart in some orders only\n");
-        return;
-    }
-    if !is_same_in_order(points, g, f, answer) {
-        print(b"apart one way only\n");
         return;
     }
     if answer == YES {
@@ -101,51 +96,32 @@ fn print_apart(points: &[i32], f: Four, g: Four) {
 }
 
 fn print_pair(points: &[i32], f: Four, g: Four) {
-    if !(is_present(points, f) && is_present(points, g)) {
+    if !is_present(points, f) || !is_present(points, g) {
         print(b": refused\n");
         return;
     }
-    print(b": D ");
-    print_volume(points, f);
-    print(b" and ");
-    print_volume(points, g);
+    print_volume(b": D ", points, f);
+    print_volume(b" and ", points, g);
     print(b"; corners inside ");
-    io::print_decimal(STDOUT_FILENO, corners_inside(points, f, g));
-    print(b" and ");
-    io::print_decimal(STDOUT_FILENO, corners_inside(points, g, f));
-    print(b"; ");
+    print_count(corners_inside(points, f, g), b" and ");
+    print_count(corners_inside(points, g, f), b"; ");
     print_apart(points, f, g);
 }
 
-// What stands at i in f followed by g, 0 past their end.
-fn number_at(f: &[i32; 12], g: &[i32; 12], i: usize) -> i32 {
-    if i < 12 {
-        return f[i];
-    }
-    if i < 24 { g[i - 12] } else { 0 }
-}
-
-// Puts f followed by g into out.
-fn join(f: &[i32; 12], g: &[i32; 12], out: &mut [i32]) {
-    for i in 0..out.len() {
-        out[i] = number_at(f, g, i);
-    }
-}
-
-// What is found of the tetrahedra of the first n numbers of f followed by g; refused where those are not eight points.
-pub fn report_first(n: usize, name: &[u8], f: [i32; 12], g: [i32; 12]) {
+// NAME;COORDINATES: three a corner, four corners a tetrahedron. Other than eight points are refused.
+fn report(line: &[u8]) {
+    print(before(line, b';'));
     let mut points = [0i32; 24];
-    join(&f, &g, &mut points);
-    print(name);
-    let one = four(0, 1, 2, 3);
-    let other = four(4, 5, 6, 7);
-    if n < 24 {
-        print_pair(&points[0..n], one, other);
-    } else {
-        print_pair(&points, one, other);
-    }
+    let read = integers(after(line, b';'), &mut points);
+    let n = read.n;
+    print_pair(&points[0..n], four(0, 1, 2, 3), four(4, 5, 6, 7));
 }
 
-pub fn report(name: &[u8], f: [i32; 12], g: [i32; 12]) {
-    report_first(24, name, f, g);
+pub fn report_all(text: &[u8]) {
+    let mut rest = text;
+    while rest.len() > 0 {
+        report(before(rest, b'\n'));
+        let from = past(rest, b'\n');
+        rest = &rest[from..];
+    }
 }

@@ -1,16 +1,18 @@
--- MEASURING (document 01): D, S, the shape number, millionths, numbers 3 and 16. Assumes nothing: these are definitions, and statements whose proofs are owed.
+-- MEASURING (document 01): D, S, the shape number, millionths, numbers 3 and 16; and what is promised of them. Assumes nothing: these are definitions and statements.
 use mathlib.Core.Path.{_≡_}
-use mathlib.Core.Bool.{Bool, true, false, _&&_, _||_, not, cond}
-use mathlib.Core.List.{List, [], _∷_}
-use Prim.Native.Nat.{ℕ, zero, suc, _+_, _-_, _*_, _^_, _≤_, _<_, min}
+use mathlib.Core.Bool.{Bool, true, false, cond}
+use mathlib.Core.List.{List}
+use Prim.Native.Nat.{ℕ, zero, suc, _+_, _-_, _^_, _≤_, min}
 use lib.Dec.{ltb, eqb}
 use lib.ListN.{length}
 use lib.IntN.{ℤ, pos, negsuc}
 use lib.Ieee.{Float, binary64, mul, div, ofInt, toUnsigned}
+use lib.Ieee.Exact.{HasValue}
 use Rattle.geometry.specs.Space.{Z, plus, V3, less, dot, four, point, points-in, D}
 use Rattle.geometry.specs.declared.tetrahedron.Four.{Four}
 use Rattle.geometry.specs.Range.{any-far}
 use Rattle.geometry.specs.Shape.{Within}
+use Rattle.geometry.specs.Floor.{Floor}
 use Rattle.geometry.specs.declared.measure.Measurement.{Measurement}
 use Rattle.geometry.specs.declared.measure.Measurement.the-variants.{Refused, Flat, Shape}
 use Rattle.geometry.specs.declared.measure.Sizes.{Sizes}
@@ -44,7 +46,7 @@ S-of ps f =
 unfoldable pub double : ℕ → Float
 double n = ofInt binary64 (pos n)
 
--- 432 × (D × D) divided by (S × S) × S, in that order
+-- 432 × (D × D) divided by (S × S) × S, in that order (the cube of the mean ratio, an element quality measure)
 unfoldable pub shape-number : (d s : Float) → Float
 shape-number d s = div binary64 (mul binary64 (double 432) (mul binary64 d d)) (mul binary64 (mul binary64 s s) s)
 
@@ -58,10 +60,18 @@ greatest-millionths = 1000000
 unfoldable pub clamped : ℕ → ℕ
 clamped w = cond (ltb w least-millionths) least-millionths (min w greatest-millionths)
 
--- p is q × 1,000,000, rounded once; the largest whole number not above p (`toUnsigned` cuts toward zero), brought into 1 to 1,000,000.
--- At what is no shape number: 1 at NaN and below 1, 1,000,000 at infinity.
+-- q × 1,000,000, rounded once
+abbrev pub million-times : (q : Float) → Float
+million-times q = mul binary64 q (double 1000000)
+
+-- the quality in fixed point: the largest whole number not above p = q × 1,000,000 (`toUnsigned` cuts toward zero), brought into 1 to 1,000,000.
+-- At what is no shape number: 1 where p is NaN or below 1, 1,000,000 at infinity.
 unfoldable pub millionths : (q : Float) → ℕ
-millionths q = clamped (toUnsigned 32 (mul binary64 q (double 1000000)))
+millionths q = clamped (toUnsigned 32 (million-times q))
+
+-- THE PROMISE, for every q: the largest whole number not above p, but at least 1 and at most 1,000,000
+unfoldable pub Millionths-floor : Type 0
+Millionths-floor = (q : Float) → Floor (million-times q) (millionths q)
 
 -- ---- the measuring answer
 unfoldable pub shape-of : List V3 → Four → Float
@@ -100,6 +110,12 @@ number-of (Refused n) = n
 number-of Flat = 0
 number-of (Shape q) = 0
 
+-- 1 where it is flat
+unfoldable pub flat-of : Measurement → ℕ
+flat-of (Refused n) = 0
+flat-of Flat = 1
+flat-of (Shape q) = 0
+
 -- its millionths; 0 where there are none
 unfoldable pub millionths-of : Measurement → ℕ
 millionths-of (Refused n) = 0
@@ -118,12 +134,38 @@ four-quality ps f = cond (is-flat ps f) 0 (millionths (shape-of ps f))
 unfoldable pub four-entry : List V3 → Four → ℤ
 four-entry ps f = cond (is-flat ps f) (negsuc 0) (pos (millionths (shape-of ps f)))
 
--- ---- owed: D and S go into doubles without loss; q × S³ differs from 432 × D² by at most 432 × D² / 2 ^ 50
+-- ---- THE PROMISES of D, S and the shape number
+-- the double x is the whole number n, without loss
+pub record Exactly (x : Float) (n : ℕ) : Type 0 where
+  pub small : n ≤ 2 ^ 53
+  pub value : HasValue x false n 1
+
+-- D and S of any four go into doubles without loss
 unfoldable pub Sizes-exact : Type 0
 Sizes-exact =
-    (cs : List ℤ) (f : Four) → any-far cs ≡ false → (D-of (points-in cs) f ≤ 2 ^ 53) × (S-of (points-in cs) f ≤ 2 ^ 53)
+    (cs : List ℤ) (f : Four) → any-far cs ≡ false →
+    Exactly (double (D-of (points-in cs) f)) (D-of (points-in cs) f) × Exactly (double (S-of (points-in cs) f)) (S-of (points-in cs) f)
 
+-- q × S³ differs from 432 × D² by at most 432 × D² / 2 ^ 50
 unfoldable pub Shape-bound : Type 0
 Shape-bound =
     (cs : List ℤ) (f : Four) → any-far cs ≡ false → is-flat (points-in cs) f ≡ false →
     Within (shape-of (points-in cs) f) (D-of (points-in cs) f) (S-of (points-in cs) f)
+
+-- ---- the same of what a caller gets, for coordinates that measuring takes
+abbrev pub measured-D : List ℤ → ℕ
+measured-D cs = D-of (points-in cs) (four 0 1 2 3)
+
+abbrev pub measured-S : List ℤ → ℕ
+measured-S cs = S-of (points-in cs) (four 0 1 2 3)
+
+-- flat or not, D and S are kept without loss
+unfoldable pub Measured-sizes-exact : Type 0
+Measured-sizes-exact =
+    (cs : List ℤ) → measure-refusal cs ≡ 0 → Exactly (measured cs .sizes .d) (measured-D cs) × Exactly (measured cs .sizes .s) (measured-S cs)
+
+-- not flat: the shape number is both answered and kept, within its bound
+unfoldable pub Measured-shape-bound : Type 0
+Measured-shape-bound =
+    (cs : List ℤ) → measure-refusal cs ≡ 0 → is-flat (points-in cs) (four 0 1 2 3) ≡ false →
+    (measured cs .answer ≡ Shape (measured cs .sizes .shape)) × Within (measured cs .sizes .shape) (measured-D cs) (measured-S cs)

@@ -2,12 +2,11 @@
 use mathlib.Core.Path.{_≡_}
 use mathlib.Core.Bool.{Bool, true, false, _&&_, _||_, not, cond}
 use mathlib.Core.List.{List, [], _∷_, _++_}
-use mathlib.Core.Option.{Option, none, some}
-use Prim.Native.Nat.{ℕ, zero, suc, _+_, _*_, _-_, _/_, _%_, _^_, _≤_, _<_, min}
-use lib.Dec.{ltb, leb, eqb}
-use lib.ListN.{length, getD, set, take, drop, replicate}
-use lib.IntN.{ℤ, pos, negsuc}
--- document 01's four: four point numbers a, b, c, d; the struct that the functions take and return
+use Prim.Native.Nat.{ℕ, suc, _+_, _*_}
+use lib.Dec.{ltb, eqb}
+use lib.ListN.{length, getD}
+use lib.IntN.{ℤ, pos, negsuc, subℕ}
+-- document 01's four (a tetrahedron by its vertex indices): four point numbers a, b, c, d; the struct that the functions take and return
 use Rattle.geometry.specs.declared.tetrahedron.Four.{Four}
 
 -- a signed number as a difference
@@ -21,6 +20,10 @@ z u d = record { up = u; down = d }
 unfoldable pub of : ℤ → Z
 of (pos n) = z n 0
 of (negsuc n) = z 0 (suc n)
+
+-- the whole number that it stands for
+unfoldable pub value : Z → ℤ
+value a = subℕ (a .up) (a .down)
 
 unfoldable pub plus : Z → Z → Z
 plus a b = z (a .up + b .up) (a .down + b .down)
@@ -66,7 +69,7 @@ is-zero a = equal (a .x) zero-z && (equal (a .y) zero-z && equal (a .w) zero-z)
 unfoldable pub same-place : V3 → V3 → Bool
 same-place a b = equal (a .x) (b .x) && (equal (a .y) (b .y) && equal (a .w) (b .w))
 
--- D of four points
+-- D of four points: the orientation determinant, six times the signed volume
 unfoldable pub det : (a b c d : V3) → Z
 det a b c d = dot (less b a) (cross (less c a) (less d a))
 
@@ -89,14 +92,15 @@ four a b c d = record { a = a; b = b; c = c; d = d }
 unfoldable pub D : List V3 → Four → Z
 D ps f = det (point ps (f .a)) (point ps (f .b)) (point ps (f .c)) (point ps (f .d))
 
+-- not degenerate: D is not 0. Else the four is flat
 unfoldable pub solid : List V3 → Four → Bool
 solid ps f = not (equal (D ps f) zero-z)
 
--- read in an order that makes D positive
+-- read in an order that makes D positive: positively oriented
 unfoldable pub turned : List V3 → Four → Four
 turned ps f = cond (above (D ps f) zero-z) f (four (f .b) (f .a) (f .c) (f .d))
 
--- a point strictly inside a tetrahedron read so
+-- a point strictly inside a tetrahedron read so: in its open interior
 unfoldable pub inside : List V3 → Four → V3 → Bool
 inside ps f p =
     let a = point ps (f .a) in
@@ -105,7 +109,7 @@ inside ps f p =
     let d = point ps (f .d) in
     (above (det p b c d) zero-z && above (det a p c d) zero-z) && (above (det a b p d) zero-z && above (det a b c p) zero-z)
 
--- APART: a direction along which the greatest of one is at most the least of the other
+-- APART (interiors disjoint: separated by a plane): a direction along which the greatest of one is at most the least of the other
 unfoldable pub corners : List V3 → Four → List V3
 corners ps f = point ps (f .a) ∷ point ps (f .b) ∷ point ps (f .c) ∷ point ps (f .d) ∷ []
 
@@ -149,6 +153,7 @@ unfoldable pub all-crosses : (one other : List V3) → List V3
 all-crosses [] ys = []
 all-crosses (x ∷ xs) ys = crosses x ys ++ all-crosses xs ys
 
+-- the candidate separating axes. That they are enough for any two is the separating-axis theorem; it is not proved here, and nothing rests on it
 unfoldable pub directions : List V3 → (f g : Four) → List V3
 directions ps f g = normals ps f ++ normals ps g ++ all-crosses (edges-of ps f) (edges-of ps g)
 

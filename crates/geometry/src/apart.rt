@@ -3,9 +3,10 @@
 // tetrahedron for each of its four corners, and tests the six cross products by differences. Its own tetrahedron has the rows of e's two faces.
 ghost use mathlib.Core.Path.{_≡_};
 ghost use Rattle.geometry.specs.Space.{points-in, apart};
-ghost use Rattle.geometry.specs.Vectors.{zero-vector, lesser-of, greater-of, any-parting, difference, cross-product, normal-of, edge-vectors, crosses-of, all-crosses-of};
-ghost use Rattle.geometry.specs.Range.{furthest, longest, widest, Bounded, In-range, Present};
-ghost use Rattle.geometry.specs.Rows.{row-of, row-difference, no-row, extent-in, clear, parting-rows, level-of, faces-of, no-faces, Faces-found, seen-from, across-of, sides-of, Bounded-row, Bounded-rows, In-reach};
+ghost use Rattle.geometry.specs.inner.Vectors.{zero-vector, difference, cross-product, normal-of, edge-vectors, crosses-of, all-crosses-of};
+ghost use Rattle.geometry.specs.inner.Rows.{lesser-of, greater-of, any-parting, row-of, row-difference, no-row, extent-in, clear, parting-rows, level-of, faces-of, no-faces, Faces-found, seen-from, across-of, sides-of, Bounded-row, Bounded-rows};
+ghost use Rattle.geometry.specs.Range.{furthest, Present};
+ghost use Rattle.geometry.specs.inner.Bounded.{longest, widest, Bounded, In-range, In-reach};
 use crate::tetrahedron::Corners;
 use crate::tetrahedron::Four;
 use crate::tetrahedron::corner_points;
@@ -16,49 +17,49 @@ use crate::vector::is_zero;
 use crate::vector::minus;
 
 // The values of four corners along a direction.
-pub struct Row {
-    pub a: i64,
-    pub b: i64,
-    pub c: i64,
-    pub d: i64,
+pub(crate) struct Row {
+    pub(crate) a: i64,
+    pub(crate) b: i64,
+    pub(crate) c: i64,
+    pub(crate) d: i64,
 }
 
 // The least and the greatest of them.
-pub struct Extent {
-    pub least: i64,
-    pub greatest: i64,
+pub(crate) struct Extent {
+    pub(crate) least: i64,
+    pub(crate) greatest: i64,
 }
 
 // A row for each of four corners.
-pub struct Rows {
-    pub a: Row,
-    pub b: Row,
-    pub c: Row,
-    pub d: Row,
+pub(crate) struct Rows {
+    pub(crate) a: Row,
+    pub(crate) b: Row,
+    pub(crate) c: Row,
+    pub(crate) d: Row,
 }
 
 // Whether a face normal parts two tetrahedra; where none does, the row of the other along each.
-pub struct Faces {
-    pub parted: bool,
-    pub abc: Row,
-    pub abd: Row,
-    pub acd: Row,
-    pub bcd: Row,
+pub(crate) struct Faces {
+    pub(crate) parted: bool,
+    pub(crate) abc: Row,
+    pub(crate) abd: Row,
+    pub(crate) acd: Row,
+    pub(crate) bcd: Row,
 }
 
-pub fn lesser(a: i64, b: i64) -> i64
+pub(crate) fn lesser(a: i64, b: i64) -> i64
     ensures { λ r. ⌜ r ≡ lesser-of a b ⌝ }
 {
     if a < b { a } else { b }
 }
 
-pub fn greater(a: i64, b: i64) -> i64
+pub(crate) fn greater(a: i64, b: i64) -> i64
     ensures { λ r. ⌜ r ≡ greater-of a b ⌝ }
 {
     if a < b { b } else { a }
 }
 
-pub fn no_direction(n: Vector) -> bool
+pub(crate) fn no_direction(n: Vector) -> bool
     ensures { λ r. ⌜ r ≡ zero-vector n ⌝ }
 {
     if !is_zero(n.x) {
@@ -70,7 +71,7 @@ pub fn no_direction(n: Vector) -> bool
     is_zero(n.z)
 }
 
-pub fn along(n: Vector, t: Corners) -> Row
+pub(crate) fn along(n: Vector, t: Corners) -> Row
     requires { ⌜ Bounded widest n × In-range t ⌝ }
     ensures { λ r. ⌜ (r ≡ row-of n t) × Bounded-row r ⌝ }
 {
@@ -81,7 +82,7 @@ pub fn along(n: Vector, t: Corners) -> Row
     Row { a, b, c, d }
 }
 
-pub fn row_minus(p: Row, q: Row) -> Row
+pub(crate) fn row_minus(p: Row, q: Row) -> Row
     requires { ⌜ Bounded-row p × Bounded-row q ⌝ }
     ensures { λ r. ⌜ r ≡ row-difference p q ⌝ }
 {
@@ -94,7 +95,7 @@ pub fn row_minus(p: Row, q: Row) -> Row
 }
 
 // The row along the opposite direction.
-pub fn back(p: Row) -> Row
+pub(crate) fn back(p: Row) -> Row
     requires { ⌜ Bounded-row p ⌝ }
     ensures { λ r. ⌜ (r ≡ row-difference no-row p) × Bounded-row r ⌝ }
 {
@@ -106,7 +107,7 @@ pub fn back(p: Row) -> Row
     }
 }
 
-pub fn extent_in(p: Row) -> Extent
+pub(crate) fn extent_in(p: Row) -> Extent
     ensures { λ r. ⌜ r ≡ extent-in p ⌝ }
 {
     Extent {
@@ -116,14 +117,14 @@ pub fn extent_in(p: Row) -> Extent
 }
 
 // Whether the two have at most an end in common. Both comparisons are made: a branch between them could not be predicted.
-pub fn are_clear(p: Extent, q: Extent) -> bool
+pub(crate) fn are_clear(p: Extent, q: Extent) -> bool
     ensures { λ r. ⌜ r ≡ clear p q ⌝ }
 {
     (p.greatest <= q.least) | (q.greatest <= p.least)
 }
 
 // The test of one direction by the rows along it. A zero direction, along which all values are equal, parts nothing.
-pub fn parts(n: Vector, p: Row, q: Row) -> bool
+pub(crate) fn parts(n: Vector, p: Row, q: Row) -> bool
     ensures { λ r. ⌜ r ≡ parting-rows n p q ⌝ }
 {
     if !are_clear(extent_in(p), extent_in(q)) {
@@ -132,7 +133,7 @@ pub fn parts(n: Vector, p: Row, q: Row) -> bool
     !no_direction(n)
 }
 
-pub fn normal(a: Vector, b: Vector, c: Vector) -> Vector
+pub(crate) fn normal(a: Vector, b: Vector, c: Vector) -> Vector
     requires { ⌜ Bounded furthest a × Bounded furthest b × Bounded furthest c ⌝ }
     ensures { λ r. ⌜ (r ≡ normal-of a b c) × Bounded widest r ⌝ }
 {
@@ -140,7 +141,7 @@ pub fn normal(a: Vector, b: Vector, c: Vector) -> Vector
 }
 
 // The own corners along the normal of a face: the face is all at the value of its corner p, and q is the fourth. Their order does not matter.
-pub fn level(n: Vector, p: Vector, q: Vector) -> Row
+pub(crate) fn level(n: Vector, p: Vector, q: Vector) -> Row
     requires { ⌜ Bounded widest n × Bounded furthest p × Bounded furthest q ⌝ }
     ensures { λ r. ⌜ r ≡ level-of n p q ⌝ }
 {
@@ -155,7 +156,7 @@ pub fn level(n: Vector, p: Vector, q: Vector) -> Row
 }
 
 // What is answered where a face normal parts the two.
-pub fn no_faces() -> Faces
+pub(crate) fn no_faces() -> Faces
     ensures { λ r. ⌜ r ≡ no-faces ⌝ }
 {
     let none = Row {
@@ -174,7 +175,7 @@ pub fn no_faces() -> Faces
 }
 
 // The face normals of s; left at the first that parts.
-pub fn faces_against(s: Corners, t: Corners) -> Faces
+pub(crate) fn faces_against(s: Corners, t: Corners) -> Faces
     requires { ⌜ In-range s × In-range t ⌝ }
     ensures { λ r. ⌜ Faces-found s t r ⌝ }
 {
@@ -208,7 +209,7 @@ pub fn faces_against(s: Corners, t: Corners) -> Faces
 }
 
 // The corners of t, as edges from i.
-pub fn seen_from(i: Vector, t: Corners) -> Corners
+pub(crate) fn seen_from(i: Vector, t: Corners) -> Corners
     requires { ⌜ Bounded furthest i × In-range t ⌝ }
     ensures { λ r. ⌜ (r ≡ seen-from i t) × In-reach r ⌝ }
 {
@@ -220,7 +221,7 @@ pub fn seen_from(i: Vector, t: Corners) -> Corners
 }
 
 // A row for each corner p, along p × e. The value of q is that of p along q × e with the other sign, so six of the sixteen are computed.
-pub fn across(e: Vector, t: Corners) -> Rows
+pub(crate) fn across(e: Vector, t: Corners) -> Rows
     requires { ⌜ Bounded longest e × In-reach t ⌝ }
     ensures { λ r. ⌜ (r ≡ across-of e t) × Bounded-rows r ⌝ }
 {
@@ -260,7 +261,7 @@ pub fn across(e: Vector, t: Corners) -> Rows
 }
 
 // The tetrahedron of an edge along the same directions: the ends of the edge at zero, the other two corners by the rows x and y of its faces.
-pub fn sides(x: Row, y: Row) -> Rows
+pub(crate) fn sides(x: Row, y: Row) -> Rows
     requires { ⌜ Bounded-row x × Bounded-row y ⌝ }
     ensures { λ r. ⌜ (r ≡ sides-of x y) × Bounded-rows r ⌝ }
 {
@@ -292,7 +293,7 @@ pub fn sides(x: Row, y: Row) -> Rows
 }
 
 // The cross product of an edge e and the edge from a to b, by the rows of a and b.
-pub fn cross_parts(e: Vector, a: Vector, b: Vector, p: Row, q: Row, v: Row, w: Row) -> bool
+pub(crate) fn cross_parts(e: Vector, a: Vector, b: Vector, p: Row, q: Row, v: Row, w: Row) -> bool
     requires { ⌜ (Bounded longest e × Bounded furthest a × Bounded furthest b) × (Bounded-row p × Bounded-row q) × Bounded-row v × Bounded-row w ⌝ }
     ensures { λ r. ⌜ r ≡ parting-rows (cross-product e (difference b a)) (row-difference p q) (row-difference v w) ⌝ }
 {
@@ -301,7 +302,7 @@ pub fn cross_parts(e: Vector, a: Vector, b: Vector, p: Row, q: Row, v: Row, w: R
 
 // Whether the cross product of the edge from i to j and an edge of t parts the two, where x and y are the rows of t along
 // the normals of the faces i, j, m and i, j, w.
-pub fn edge_parts(i: Vector, j: Vector, t: Corners, x: Row, y: Row) -> bool
+pub(crate) fn edge_parts(i: Vector, j: Vector, t: Corners, x: Row, y: Row) -> bool
     requires { ⌜ (Bounded furthest i × Bounded furthest j) × In-range t × Bounded-row x × Bounded-row y ⌝ }
     ensures { λ r. ⌜ ((m w : Vector) → x ≡ row-of (normal-of i j m) t → y ≡ row-of (normal-of i j w) t → r ≡ any-parting (crosses-of (difference j i) (edge-vectors t)) (record { a = i; b = j; c = m; d = w }) t) ⌝ }
 {
@@ -327,7 +328,7 @@ pub fn edge_parts(i: Vector, j: Vector, t: Corners, x: Row, y: Row) -> bool
 }
 
 // Whether the cross product of an edge of s and an edge of t parts them; x has the rows along the face normals of s.
-pub fn edges_part(s: Corners, t: Corners, x: Faces) -> bool
+pub(crate) fn edges_part(s: Corners, t: Corners, x: Faces) -> bool
     requires { ⌜ In-range s × In-range t × (x ≡ faces-of s t) ⌝ }
     ensures { λ r. ⌜ r ≡ any-parting (all-crosses-of (edge-vectors s) (edge-vectors t)) s t ⌝ }
 {

@@ -5,4 +5,4 @@ pub mod apart;
 pub mod measure;
 pub mod range;
 pub mod tetrahedron;
-pub mod vector;
+mod vector;

@@ -3,9 +3,10 @@ ghost use mathlib.Core.Path.{_≡_};
 ghost use Prim.Native.Nat.{_*_, _^_, _≤_};
 ghost use lib.IntN.{pos, natAbs};
 ghost use Rattle.geometry.specs.Space.{points-in};
-ghost use Rattle.geometry.specs.Range.{furthest, longest, Bounded, In-range, Present};
-ghost use Rattle.geometry.specs.Vectors.{square-of, squares-of};
-ghost use Rattle.geometry.specs.Measure.{number-of, shape-number, sizes, millionths, millionths-of, refused, measured-four, Measures};
+ghost use Rattle.geometry.specs.Range.{furthest, Present};
+ghost use Rattle.geometry.specs.inner.Bounded.{longest, Bounded, In-range};
+ghost use Rattle.geometry.specs.inner.Vectors.{square-of, squares-of};
+ghost use Rattle.geometry.specs.Measure.{number-of, flat-of, shape-number, sizes, millionths, millionths-of, refused, measured-four, Measures};
 use crate::range::any_far;
 use crate::tetrahedron::Corners;
 use crate::tetrahedron::Four;
@@ -35,17 +36,17 @@ pub struct Measured {
     pub sizes: Sizes,
 }
 
-pub struct Quality {
-    pub millionths: u32,
+pub(crate) struct Quality {
+    pub(crate) millionths: u32,
 }
 
 impl Quality {
-    pub const LEAST: u32 = 1;
+    pub(crate) const LEAST: u32 = 1;
 
-    pub const GREATEST: u32 = 1_000_000;
+    pub(crate) const GREATEST: u32 = 1_000_000;
 
     // The largest whole number not above a million shape numbers, rounded once, and brought into LEAST to GREATEST.
-    pub fn of(shape: f64) -> Self
+    pub(crate) fn of(shape: f64) -> Self
         ensures { λ r. ⌜ r .millionths ≡ millionths shape ⌝ }
     {
         let p = shape * 1000000.0;
@@ -88,8 +89,23 @@ pub fn number_of(m: Measurement) -> u32
     }
 }
 
+const FLAT: u32 = 1;
+
+const NOT_FLAT: u32 = 0;
+
+// Whether the measurement is that of a flat tetrahedron.
+pub fn flat_of(m: Measurement) -> u32
+    ensures { λ r. ⌜ r ≡ flat-of m ⌝ }
+{
+    match m {
+        Measurement::Refused(_) => NOT_FLAT,
+        Measurement::Flat => FLAT,
+        Measurement::Shape(_) => NOT_FLAT,
+    }
+}
+
 // 432 × (D × D) divided by (S × S) × S, in that order: five roundings.
-pub fn shape_number(d: f64, s: f64) -> f64
+pub(crate) fn shape_number(d: f64, s: f64) -> f64
     ensures { λ r. ⌜ r ≡ shape-number d s ⌝ }
 {
     432.0 * (d * d) / ((s * s) * s)

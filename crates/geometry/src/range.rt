@@ -1,10 +1,9 @@
 // The range of a coordinate (document 01, number 3).
 ghost use mathlib.Core.Path.{_≡_};
-ghost use lib.IntN.{natAbs};
 ghost use Rattle.geometry.specs.Range.{far, any-far};
 
 // The greatest size of a coordinate.
-pub const FURTHEST: i32 = 10_000;
+pub(crate) const FURTHEST: i32 = 10_000;
 
 fn is_far(x: i32) -> bool
     ensures { λ r. ⌜ r ≡ far x ⌝ }

@@ -2,9 +2,10 @@
 ghost use mathlib.Core.Path.{_≡_};
 ghost use Prim.Native.Nat.{_<_};
 ghost use lib.ListN.{length};
-ghost use Rattle.geometry.specs.Space.{points-in, point, D, solid, turned, inside};
-ghost use Rattle.geometry.specs.Vectors.{value, corners-of};
-ghost use Rattle.geometry.specs.Range.{In-range, Present};
+ghost use Rattle.geometry.specs.Space.{points-in, point, D, solid, turned, inside, value};
+ghost use Rattle.geometry.specs.inner.Vectors.{corners-of};
+ghost use Rattle.geometry.specs.inner.Bounded.{In-range};
+ghost use Rattle.geometry.specs.Range.{Present};
 use crate::vector::Vector;
 use crate::vector::det;
 use crate::vector::is_positive;
@@ -20,14 +21,14 @@ pub struct Four {
 }
 
 // Its corners as points.
-pub struct Corners {
-    pub a: Vector,
-    pub b: Vector,
-    pub c: Vector,
-    pub d: Vector,
+pub(crate) struct Corners {
+    pub(crate) a: Vector,
+    pub(crate) b: Vector,
+    pub(crate) c: Vector,
+    pub(crate) d: Vector,
 }
 
-pub fn corner_points(points: &[i32], f: Four) -> Corners
+pub(crate) fn corner_points(points: &[i32], f: Four) -> Corners
     requires { ⌜ Present (now points) f ⌝ }
     ensures { λ r. ⌜ (r ≡ corners-of (points-in (now (points .entry))) f) × In-range r ⌝ }
 {

@@ -1,4 +1,4 @@
-// Vectors of three i64. Each operation is asked for only where its result cannot overflow; specs/Range.antt has the ranges.
+// Vectors of three i64. Each operation is asked for only where its result cannot overflow; specs/inner/Bounded has the ranges.
 ghost use mathlib.Core.Path.{_≡_};
 ghost use mathlib.Core.Bool.{false};
 ghost use Prim.Native.Nat.{_<_};
@@ -7,24 +7,25 @@ ghost use lib.ListN.{length, getD};
 ghost use lib.IntN.{pos, natAbs};
 ghost use lib.Signed.{ltZ};
 ghost use Rattle.geometry.specs.Space.{points-in, point};
-ghost use Rattle.geometry.specs.Vectors.{vector, difference, cross-product, dot-product, det-of};
-ghost use Rattle.geometry.specs.Range.{any-far, furthest, longest, widest, Bounded};
+ghost use Rattle.geometry.specs.inner.Vectors.{vector, difference, cross-product, dot-product, det-of};
+ghost use Rattle.geometry.specs.Range.{any-far, furthest};
+ghost use Rattle.geometry.specs.inner.Bounded.{longest, widest, Bounded};
 
 // A point, an edge or a direction.
-pub struct Vector {
-    pub x: i64,
-    pub y: i64,
-    pub z: i64,
+pub(crate) struct Vector {
+    pub(crate) x: i64,
+    pub(crate) y: i64,
+    pub(crate) z: i64,
 }
 
-pub fn coordinate(points: &[i32], i: usize) -> i64
+pub(crate) fn coordinate(points: &[i32], i: usize) -> i64
     requires { ⌜ i < length (now points) ⌝ }
     ensures { λ r. ⌜ r ≡ getD (now (points .entry)) i (pos 0) ⌝ }
 {
     points[i] as i64
 }
 
-pub fn point(points: &[i32], p: usize) -> Vector
+pub(crate) fn point(points: &[i32], p: usize) -> Vector
     requires { ⌜ (any-far (now points) ≡ false) × (p < length (points-in (now points))) ⌝ }
     ensures { λ r. ⌜ (r ≡ vector (point (points-in (now (points .entry))) p)) × Bounded furthest r ⌝ }
 {
@@ -35,7 +36,7 @@ pub fn point(points: &[i32], p: usize) -> Vector
 }
 
 // Two points make an edge.
-pub fn minus(a: Vector, b: Vector) -> Vector
+pub(crate) fn minus(a: Vector, b: Vector) -> Vector
     requires { ⌜ Bounded furthest a × Bounded furthest b ⌝ }
     ensures { λ r. ⌜ (r ≡ difference a b) × Bounded longest r ⌝ }
 {
@@ -47,7 +48,7 @@ pub fn minus(a: Vector, b: Vector) -> Vector
 }
 
 // Two edges make a direction.
-pub fn cross(a: Vector, b: Vector) -> Vector
+pub(crate) fn cross(a: Vector, b: Vector) -> Vector
     requires { ⌜ Bounded longest a × Bounded longest b ⌝ }
     ensures { λ r. ⌜ (r ≡ cross-product a b) × Bounded widest r ⌝ }
 {
@@ -59,27 +60,27 @@ pub fn cross(a: Vector, b: Vector) -> Vector
 }
 
 // A direction with a point or an edge.
-pub fn dot(n: Vector, p: Vector) -> i64
+pub(crate) fn dot(n: Vector, p: Vector) -> i64
     requires { ⌜ Bounded widest n × Bounded longest p ⌝ }
     ensures { λ r. ⌜ r ≡ dot-product n p ⌝ }
 {
     n.x * p.x + (n.y * p.y + n.z * p.z)
 }
 
-pub fn is_zero(v: i64) -> bool
+pub(crate) fn is_zero(v: i64) -> bool
     ensures { λ r. ⌜ r ≡ eqb (natAbs v) 0 ⌝ }
 {
     v == 0
 }
 
-pub fn is_positive(v: i64) -> bool
+pub(crate) fn is_positive(v: i64) -> bool
     ensures { λ r. ⌜ r ≡ ltZ (pos 0) v ⌝ }
 {
     0 < v
 }
 
 // The determinant of b - a, c - a, d - a: six times the signed volume of the tetrahedron.
-pub fn det(a: Vector, b: Vector, c: Vector, d: Vector) -> i64
+pub(crate) fn det(a: Vector, b: Vector, c: Vector, d: Vector) -> i64
     requires { ⌜ Bounded furthest a × Bounded furthest b × Bounded furthest c × Bounded furthest d ⌝ }
     ensures { λ r. ⌜ r ≡ det-of a b c d ⌝ }
 {

@@ -7,8 +7,7 @@ use lib.Dec.{ltb}
 use lib.ListN.{length}
 use lib.IntN.{ℤ, pos, negsuc}
 use borrow.Author.Tests.{ltb-true, ltb-false}
-use Rattle.geometry.specs.Space.{points-in, D, turned, apart}
-use Rattle.geometry.specs.Vectors.{value}
+use Rattle.geometry.specs.Space.{points-in, D, turned, apart, value}
 use Rattle.geometry.specs.Measure.{number-of, millionths-of, Measures}
 use Rattle.geometry.specs.declared.tetrahedron.Four.{Four}
 use Rattle.geometry.specs.declared.measure.Measured.{Measured}

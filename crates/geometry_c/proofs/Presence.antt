@@ -10,7 +10,7 @@ use borrow.Author.Tests.{ltb-true, lt-ltb, le-ltb, not-true}
 use Rattle.geometry.specs.Space.{points-in, four}
 use Rattle.geometry.specs.Range.{any-far, Present}
 use Rattle.geometry.specs.declared.tetrahedron.Four.{Four}
-use Rattle.geometry.proofs.Points.{points-length}
+use Rattle.geometry.proofs.Space.Points.{points-length}
 use Rattle.geometry_c.specs.Checked.{named, present, four-from, Row}
 
 both : (a b : Bool) → (a && b) ≡ true → (a ≡ true) × (b ≡ true)

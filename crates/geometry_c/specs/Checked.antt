@@ -6,8 +6,7 @@ use Prim.Native.Nat.{ℕ, _+_, _^_, _<_}
 use lib.Dec.{ltb}
 use lib.ListN.{length}
 use lib.IntN.{ℤ, pos, negsuc}
-use Rattle.geometry.specs.Space.{points-in, point, four, D, solid, turned, inside, apart}
-use Rattle.geometry.specs.Vectors.{value}
+use Rattle.geometry.specs.Space.{points-in, point, four, D, solid, turned, inside, apart, value}
 use Rattle.geometry.specs.Range.{any-far}
 use Rattle.geometry.specs.Measure.{measured, number-of, millionths-of}
 use Rattle.geometry.specs.declared.tetrahedron.Four.{Four}
@@ -34,8 +33,9 @@ answer accepted holds = cond accepted (yes-or-no holds) (negsuc 0)
 abbrev pub solid-answer : List ℤ → Four → ℤ
 solid-answer cs f = answer (present cs f) (solid (points-in cs) f)
 
+-- f is read in the order that makes its volume positive, like everywhere
 abbrev pub inside-answer : List ℤ → Four → (p : ℕ) → ℤ
-inside-answer cs f p = answer (present cs f && named cs p) (inside (points-in cs) f (point (points-in cs) p))
+inside-answer cs f p = answer (present cs f && named cs p) (inside (points-in cs) (turned (points-in cs) f) (point (points-in cs) p))
 
 abbrev pub apart-answer : List ℤ → (f g : Four) → ℤ
 apart-answer cs f g = answer (present cs f && present cs g) (apart (points-in cs) f g)

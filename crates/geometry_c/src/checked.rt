@@ -13,7 +13,7 @@ pub const NO: i32 = 0;
 
 pub const YES: i32 = 1;
 
-pub const REFUSED: i32 = -1;
+const REFUSED: i32 = -1;
 
 #[repr(C)]
 pub struct Volume {
@@ -75,13 +75,17 @@ pub fn turned(points: &[i32], f: Four) -> Four
     f
 }
 
-// Whether the point p lies strictly inside f, whose volume is positive.
+// Whether the point p lies strictly inside f, in whatever order its corners come: f is read in the order that makes its volume positive.
 pub fn inside(points: &[i32], f: Four, p: usize) -> i32
     ensures { λ r. ⌜ r ≡ inside-answer (now (points .entry)) f p ⌝ }
 {
     if is_present(points, f) {
         if p < points.len() / 3 {
-            return if is_inside(points, f, p) { YES } else { NO };
+            return if is_inside(points, oriented(points, f), p) {
+                YES
+            } else {
+                NO
+            };
         }
     }
     REFUSED

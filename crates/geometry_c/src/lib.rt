@@ -1,5 +1,6 @@
-// The geometry for C and Rust, by the numbers of points. Assumes nothing. No function has a `requires`: each takes any coordinates and any
-// numbers, and refuses. points has three coordinates a point; a slice is a pointer and a length. 1 is yes, 0 is no, -1 is refused.
+// The geometry by the numbers of points, for the programs that try it and for bench/geometry: no part of the library, which is crates/cottontuff.
+// Assumes nothing. No function has a `requires`: each takes any coordinates and any numbers, and refuses. points has three coordinates a point;
+// a slice is a pointer and a length. 1 is yes, 0 is no, -1 is refused.
 pub mod checked;
 
 ghost use mathlib.Core.Path.{_≡_};
@@ -52,7 +53,7 @@ pub extern "C" fn geometry_signed_volume(
     volume_of(points, Four { a, b, c, d })
 }
 
-// Whether the point p lies strictly inside a, b, c, d, in an order that makes their volume positive.
+// Whether the point p lies strictly inside a, b, c, d, in whatever order they come.
 #[no_mangle]
 pub extern "C" fn geometry_is_inside(
     points: &[i32],

@@ -2,7 +2,7 @@
 use mathlib.Core.Path.{_∙_}
 use native.Mathlib.Omega.{arith}
 use mir.Syntax.{w32}
-use Rattle.geometry.proofs.Machine.{kept-at}
+use Rattle.geometry.proofs.Numbers.Machine.{kept-at}
 use Rattle.geometry_c.proofs.Answers.{rows-apart}
 use borrow.Author.Needs.{needs}
 use Rattle.geometry_c.proofs.geometry_are_apart.Statement.{statement}

@@ -2,7 +2,7 @@
 use mathlib.Core.Path.{_∙_}
 use mir.Syntax.{w32}
 use Rattle.geometry.specs.Space.{four}
-use Rattle.geometry.proofs.Machine.{kept-at}
+use Rattle.geometry.proofs.Numbers.Machine.{kept-at}
 use borrow.Author.Needs.{needs}
 use Rattle.geometry_c.proofs.geometry_is_inside.Statement.{statement}
 use Rattle.geometry_c.proofs.geometry_is_inside.Tie as tie

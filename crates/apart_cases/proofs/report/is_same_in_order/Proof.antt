@@ -1,6 +1,5 @@
 -- `apart_cases::report::is_same_in_order` is safe and ends. Assumes nothing.
 use Prim.Native.Nat.{_≤_, _-_}
-use native.Mathlib.Omega.{arith}
 use borrow.Author.Needs.{needs}
 use Rattle.apart_cases.proofs.report.is_same_in_order.Statement.{statement}
 use Rattle.apart_cases.proofs.report.is_same_in_order.Tie as tie

@@ -1,7 +1,7 @@
 -- `geometry::apart::across` meets its contract: six values, with either sign. Assumes nothing.
 use borrow.Author.Needs.{needs}
-use Rattle.geometry.specs.Rows.{row-of, across-of}
-use Rattle.geometry.proofs.Rows.{row-built, rows-built, zero-along, found-along, negated-along, negated-fits}
+use Rattle.geometry.specs.inner.Rows.{row-of, across-of}
+use Rattle.geometry.proofs.Separation.Rows.{row-built, rows-built, zero-along, found-along, negated-along, negated-fits}
 use Rattle.geometry.proofs.apart.across.Statement.{statement}
 use Rattle.geometry.proofs.apart.across.Tie as tie
 

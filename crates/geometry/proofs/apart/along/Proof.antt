@@ -1,7 +1,7 @@
 -- `geometry::apart::along` meets its contract. Assumes nothing.
 use borrow.Author.Needs.{needs}
-use Rattle.geometry.specs.Rows.{row-of}
-use Rattle.geometry.proofs.Rows.{measured-point, row-built}
+use Rattle.geometry.specs.inner.Rows.{row-of}
+use Rattle.geometry.proofs.Separation.Rows.{measured-point, row-built}
 use Rattle.geometry.proofs.apart.along.Statement.{statement}
 use Rattle.geometry.proofs.apart.along.Tie as tie
 

@@ -2,8 +2,8 @@
 use mathlib.Core.Path.{sym, _∙_}
 use borrow.Author.Needs.{needs}
 use Rattle.geometry.specs.Space.{points-in}
-use Rattle.geometry.specs.Vectors.{normals-of}
-use Rattle.geometry.proofs.Tried.{normal-of-one, normal-of-other, edges-decide, normals-at, edges-at, either-first}
+use Rattle.geometry.specs.inner.Vectors.{normals-of}
+use Rattle.geometry.proofs.Separation.Tried.{normal-of-one, normal-of-other, edges-decide, normals-at, edges-at, either-first}
 use Rattle.geometry.proofs.apart.are_apart.Statement.{statement}
 use Rattle.geometry.proofs.apart.are_apart.Tie as tie
 

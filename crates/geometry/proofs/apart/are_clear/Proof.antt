@@ -1,5 +1,5 @@
 -- `geometry::apart::are_clear` meets its contract. Assumes nothing.
-use Rattle.geometry.proofs.Rows.{clear-kept}
+use Rattle.geometry.proofs.Separation.Rows.{clear-kept}
 use Rattle.geometry.proofs.apart.are_clear.Statement.{statement}
 use Rattle.geometry.proofs.apart.are_clear.Tie as tie
 

@@ -1,9 +1,9 @@
 -- `geometry::apart::back` meets its contract. Assumes nothing.
 use lib.Dec.{lit≤}
 use lib.IntN.{pos}
-use Rattle.geometry.specs.Rows.{row-difference}
-use Rattle.geometry.proofs.Machine.{leaf, plain, sub, sub-fits}
-use Rattle.geometry.proofs.Rows.{row-built}
+use Rattle.geometry.specs.inner.Rows.{row-difference}
+use Rattle.geometry.proofs.Numbers.Machine.{leaf, plain, sub, sub-fits}
+use Rattle.geometry.proofs.Separation.Rows.{row-built}
 use Rattle.geometry.proofs.apart.back.Statement.{statement}
 use Rattle.geometry.proofs.apart.back.Tie as tie
 

@@ -1,6 +1,6 @@
 -- `geometry::apart::cross_parts` meets its contract. Assumes nothing.
 use borrow.Author.Needs.{needs}
-use Rattle.geometry.proofs.Tried.{rows-at}
+use Rattle.geometry.proofs.Separation.Tried.{rows-at}
 use Rattle.geometry.proofs.apart.cross_parts.Statement.{statement}
 use Rattle.geometry.proofs.apart.cross_parts.Tie as tie
 

@@ -1,9 +1,10 @@
 -- `geometry::apart::edge_parts` meets its contract. Assumes nothing.
 use mathlib.Core.Path.{sym, _∙_}
+use mathlib.Core.List.{[], _∷_}
 use borrow.Author.Needs.{needs}
-use Rattle.geometry.specs.Vectors.{crosses-of, edge-vectors}
-use Rattle.geometry.proofs.Tried.{this-parts, later, last-decides}
-use Rattle.geometry.proofs.Crosses.{known, cross-ab, cross-ac, cross-ad, cross-bc, cross-bd, cross-cd}
+use Rattle.geometry.specs.inner.Vectors.{difference, crosses-of, edge-vectors}
+use Rattle.geometry.proofs.Separation.Tried.{this-parts, later, last-decides}
+use Rattle.geometry.proofs.Separation.Crosses.{known, cross-ab, cross-ac, cross-ad, cross-bc, cross-bd, cross-cd}
 use Rattle.geometry.proofs.apart.edge_parts.Statement.{statement}
 use Rattle.geometry.proofs.apart.edge_parts.Tie as tie
 
@@ -31,7 +32,9 @@ unfolding crosses-of edge-vectors
 returns c m w x y =
     let a = c .before .before .before .before .before .before .args in
     let k = known (a .i) (a .j) m w (a .t) (c .before .before .before .before .before .minus .ensures .0) (c .before .before .before .seen-from .ensures .0) (c .before .before .before .before .sides .ensures .0) (c .before .before .across .ensures .0) x y in
-    this-parts (record { a = a .i; b = a .j; c = m; d = w }) (a .t) _ _ (sym (cross-ab (a .i) (a .j) m w (a .t) k (c .before .cross-parts .ensures)) ∙ c .if1 .taken)
+    let t = a .t in
+    let later-edges = difference (t .c) (t .a) ∷ difference (t .d) (t .a) ∷ difference (t .c) (t .b) ∷ difference (t .d) (t .b) ∷ difference (t .d) (t .c) ∷ [] in
+    this-parts (record { a = a .i; b = a .j; c = m; d = w }) (a .t) _ (crosses-of (difference (a .j) (a .i)) later-edges) (sym (cross-ab (a .i) (a .j) m w (a .t) k (c .before .cross-parts .ensures)) ∙ c .if1 .taken)
 
 cross-parts-requires-2 : tie.Need-cross-parts-requires-2
 cross-parts-requires-2 c κs =

@@ -1,9 +1,9 @@
 -- `geometry::apart::edges_part` meets its contract. Assumes nothing.
 use mathlib.Core.Path.{sym, _∙_}
-use Rattle.geometry.specs.Vectors.{edge-vectors}
-use Rattle.geometry.proofs.Tried.{this-edge-parts, later-edge, last-edge-decides}
-use Rattle.geometry.proofs.Faces.{abc-bounded, abd-bounded, acd-bounded, bcd-bounded}
-use Rattle.geometry.proofs.Crosses.{edge-ab, edge-ac, edge-ad, edge-bc, edge-bd, edge-cd}
+use Rattle.geometry.specs.inner.Vectors.{edge-vectors}
+use Rattle.geometry.proofs.Separation.Tried.{this-edge-parts, later-edge, last-edge-decides}
+use Rattle.geometry.proofs.Separation.Faces.{abc-bounded, abd-bounded, acd-bounded, bcd-bounded}
+use Rattle.geometry.proofs.Separation.Crosses.{edge-ab, edge-ac, edge-ad, edge-bc, edge-bd, edge-cd}
 use Rattle.geometry.proofs.apart.edges_part.Statement.{statement}
 use Rattle.geometry.proofs.apart.edges_part.Tie as tie
 

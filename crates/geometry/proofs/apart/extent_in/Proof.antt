@@ -1,9 +1,9 @@
 -- `geometry::apart::extent_in` meets its contract. Assumes nothing.
 use borrow.Author.Needs.{needs}
 use mathlib.Core.Path.{_∙_}
-use Rattle.geometry.proofs.Machine.{kept, kept-two}
-use Rattle.geometry.specs.Vectors.{lesser-of, greater-of}
-use Rattle.geometry.proofs.Rows.{extent-built}
+use Rattle.geometry.proofs.Numbers.Machine.{kept, kept-two}
+use Rattle.geometry.specs.inner.Rows.{lesser-of, greater-of}
+use Rattle.geometry.proofs.Separation.Rows.{extent-built}
 use Rattle.geometry.proofs.apart.extent_in.Statement.{statement}
 use Rattle.geometry.proofs.apart.extent_in.Tie as tie
 

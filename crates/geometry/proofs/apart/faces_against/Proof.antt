@@ -1,9 +1,9 @@
 -- `geometry::apart::faces_against` meets its contract. Assumes nothing.
 use mathlib.Core.Path.{sym, _∙_}
 use borrow.Author.Needs.{needs}
-use Rattle.geometry.specs.Vectors.{normals-of}
-use Rattle.geometry.proofs.Tried.{this-parts, later, last-decides}
-use Rattle.geometry.proofs.Faces.{level-abc, level-abd, level-acd, level-bcd, normal-row, normal-tested, one-parts, none-parts}
+use Rattle.geometry.specs.inner.Vectors.{normals-of}
+use Rattle.geometry.proofs.Separation.Tried.{this-parts, later, last-decides}
+use Rattle.geometry.proofs.Separation.Faces.{level-abc, level-abd, level-acd, level-bcd, normal-row, normal-tested, one-parts, none-parts}
 use Rattle.geometry.proofs.apart.faces_against.Statement.{statement}
 use Rattle.geometry.proofs.apart.faces_against.Tie as tie
 

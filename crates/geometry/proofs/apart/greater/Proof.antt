@@ -1,7 +1,6 @@
 -- `geometry::apart::greater` meets its contract. Assumes nothing.
-use mathlib.Core.Path.{_≡_, refl, sym, _∙_}
 use mir.Facts.{toZ-ofZ}
-use Rattle.geometry.specs.Vectors.{greater-of}
+use Rattle.geometry.specs.inner.Rows.{greater-of}
 use Rattle.geometry.proofs.apart.greater.Statement.{statement}
 use Rattle.geometry.proofs.apart.greater.Tie as tie
 

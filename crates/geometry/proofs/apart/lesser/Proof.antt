@@ -1,7 +1,6 @@
 -- `geometry::apart::lesser` meets its contract. Assumes nothing.
-use mathlib.Core.Path.{_≡_, refl, sym, _∙_}
 use mir.Facts.{toZ-ofZ}
-use Rattle.geometry.specs.Vectors.{lesser-of}
+use Rattle.geometry.specs.inner.Rows.{lesser-of}
 use Rattle.geometry.proofs.apart.lesser.Statement.{statement}
 use Rattle.geometry.proofs.apart.lesser.Tie as tie
 

@@ -1,9 +1,9 @@
 -- `geometry::apart::level` meets its contract. Assumes nothing.
 use mathlib.Core.Path.{_∙_}
 use borrow.Author.Needs.{needs}
-use Rattle.geometry.specs.Rows.{level-of}
-use Rattle.geometry.proofs.Machine.{kept}
-use Rattle.geometry.proofs.Rows.{row-is}
+use Rattle.geometry.specs.inner.Rows.{level-of}
+use Rattle.geometry.proofs.Numbers.Machine.{kept}
+use Rattle.geometry.proofs.Separation.Rows.{row-is}
 use Rattle.geometry.proofs.apart.level.Statement.{statement}
 use Rattle.geometry.proofs.apart.level.Tie as tie
 

@@ -1,8 +1,8 @@
 -- `geometry::apart::no_direction` meets its contract. Assumes nothing.
-use mathlib.Core.Path.{_≡_, refl, sym, ap, _∙_}
+use mathlib.Core.Path.{sym, _∙_}
 use borrow.Author.Tests.{not-true, not-false}
-use Rattle.geometry.proofs.Machine.{tested}
-use Rattle.geometry.proofs.Tried.{x-not-zero, y-not-zero, z-decides}
+use Rattle.geometry.proofs.Numbers.Machine.{tested}
+use Rattle.geometry.proofs.Separation.Tried.{x-not-zero, y-not-zero, z-decides}
 use borrow.Author.Needs.{needs}
 use Rattle.geometry.proofs.apart.no_direction.Statement.{statement}
 use Rattle.geometry.proofs.apart.no_direction.Tie as tie

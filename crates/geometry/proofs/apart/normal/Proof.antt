@@ -1,6 +1,6 @@
 -- `geometry::apart::normal` meets its contract. Assumes nothing.
 use borrow.Author.Needs.{needs}
-use Rattle.geometry.proofs.Faces.{normal-is}
+use Rattle.geometry.proofs.Separation.Faces.{normal-is}
 use Rattle.geometry.proofs.apart.normal.Statement.{statement}
 use Rattle.geometry.proofs.apart.normal.Tie as tie
 

@@ -3,7 +3,7 @@ use mathlib.Core.Path.{sym, ap, _∙_}
 use mathlib.Core.Bool.{not}
 use borrow.Author.Needs.{needs}
 use borrow.Author.Tests.{not-true, not-false}
-use Rattle.geometry.proofs.Tried.{clear-at, not-clear, direction-decides}
+use Rattle.geometry.proofs.Separation.Tried.{clear-at, not-clear, direction-decides}
 use Rattle.geometry.proofs.apart.parts.Statement.{statement}
 use Rattle.geometry.proofs.apart.parts.Tie as tie
 

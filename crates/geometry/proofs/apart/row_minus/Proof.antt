@@ -1,7 +1,7 @@
 -- `geometry::apart::row_minus` meets its contract. Assumes nothing.
-use Rattle.geometry.specs.Rows.{row-difference}
-use Rattle.geometry.proofs.Machine.{leaf, sub, sub-fits}
-use Rattle.geometry.proofs.Rows.{row-is}
+use Rattle.geometry.specs.inner.Rows.{row-difference}
+use Rattle.geometry.proofs.Numbers.Machine.{leaf, sub, sub-fits}
+use Rattle.geometry.proofs.Separation.Rows.{row-is}
 use Rattle.geometry.proofs.apart.row_minus.Statement.{statement}
 use Rattle.geometry.proofs.apart.row_minus.Tie as tie
 

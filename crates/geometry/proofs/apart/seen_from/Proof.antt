@@ -1,7 +1,7 @@
 -- `geometry::apart::seen_from` meets its contract. Assumes nothing.
 use borrow.Author.Needs.{needs}
-use Rattle.geometry.specs.Rows.{seen-from}
-use Rattle.geometry.proofs.Vectors.{corners-are}
+use Rattle.geometry.specs.inner.Rows.{seen-from}
+use Rattle.geometry.proofs.Space.Vectors.{corners-are}
 use Rattle.geometry.proofs.apart.seen_from.Statement.{statement}
 use Rattle.geometry.proofs.apart.seen_from.Tie as tie
 

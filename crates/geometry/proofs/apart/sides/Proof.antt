@@ -1,9 +1,9 @@
 -- `geometry::apart::sides` meets its contract. Assumes nothing.
 use lib.Dec.{lit≤}
 use lib.IntN.{pos}
-use Rattle.geometry.specs.Rows.{sides-of}
-use Rattle.geometry.proofs.Machine.{leaf, plain}
-use Rattle.geometry.proofs.Rows.{row-built, rows-built}
+use Rattle.geometry.specs.inner.Rows.{sides-of}
+use Rattle.geometry.proofs.Numbers.Machine.{leaf, plain}
+use Rattle.geometry.proofs.Separation.Rows.{row-built, rows-built}
 use Rattle.geometry.proofs.apart.sides.Statement.{statement}
 use Rattle.geometry.proofs.apart.sides.Tie as tie
 

@@ -1,11 +1,10 @@
 -- `geometry::measure::magnitude` meets its contract. Assumes nothing.
-use mathlib.Core.Path.{_≡_, refl, sym, ap, _∙_}
-use Prim.Native.Nat.{_≤_}
+use mathlib.Core.Path.{_∙_}
 use native.Mathlib.Omega.{arith}
 use lib.IntN.{pos}
 use mir.Facts.{toZ-ofZ}
-use Rattle.geometry.proofs.Machine.{leaf, plain, sub, sub-fits}
-use Rattle.geometry.proofs.Measuring.{negated, nonnegative}
+use Rattle.geometry.proofs.Numbers.Machine.{leaf, plain, sub, sub-fits}
+use Rattle.geometry.proofs.Measuring.Answers.{negated, nonnegative}
 use Rattle.geometry.proofs.measure.magnitude.Statement.{statement}
 use Rattle.geometry.proofs.measure.magnitude.Tie as tie
 

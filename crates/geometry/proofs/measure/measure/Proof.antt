@@ -1,7 +1,7 @@
 -- `geometry::measure::measure` meets its contract: 3, then 16, then the four points. Assumes nothing.
-use mathlib.Core.Path.{_≡_, refl, sym, ap, _∙_}
+use mathlib.Core.Path.{sym, _∙_}
 use Rattle.geometry.specs.Space.{four}
-use Rattle.geometry.proofs.Measuring.{far-measures, short-measures, four-measures, four-present}
+use Rattle.geometry.proofs.Measuring.Answers.{far-measures, short-measures, four-measures, four-present}
 use borrow.Author.Needs.{needs}
 use Rattle.geometry.proofs.measure.measure.Statement.{statement}
 use Rattle.geometry.proofs.measure.measure.Tie as tie

@@ -1,16 +1,15 @@
 -- `geometry::measure::measure_four` meets its contract: D and S are whole numbers of at most 53 bits, so that their doubles are exact. Assumes nothing.
-use mathlib.Core.Path.{_≡_, refl, sym, ap, subst, _∙_}
-use mathlib.Core.Bool.{Bool}
+use mathlib.Core.Path.{sym, ap, subst, _∙_}
 use Prim.Native.Nat.{ℕ, _^_, _≤_}
 use lib.Dec.{T, eqb}
 use lib.IntN.{ℤ, pos, natAbs}
 use lib.Ieee.{binary64, inFloat, ofInt}
 use Rattle.geometry.specs.Space.{points-in}
 use Rattle.geometry.specs.Measure.{double}
-use Rattle.geometry.proofs.Machine.{kept, tested}
-use Rattle.geometry.proofs.Near.{whole-in}
-use Rattle.geometry.proofs.Bounds.{D-small, S-small}
-use Rattle.geometry.proofs.Measuring.{D-is, S-is, flat-is, solid-measure}
+use Rattle.geometry.proofs.Numbers.Machine.{kept, tested}
+use Rattle.geometry.proofs.Measuring.Near.{whole-in}
+use Rattle.geometry.proofs.Measuring.Bounds.{D-small, S-small}
+use Rattle.geometry.proofs.Measuring.Answers.{D-is, S-is, flat-is, solid-measure}
 use borrow.Author.Needs.{needs}
 use Rattle.geometry.proofs.measure.measure_four.Statement.{statement}
 use Rattle.geometry.proofs.measure.measure_four.Tie as tie

@@ -1,5 +1,5 @@
 -- `geometry::measure::millionths_of` meets its contract. Assumes nothing.
-use mathlib.Core.Path.{_≡_, refl, sym, ap, _∙_}
+use mathlib.Core.Path.{sym, ap, _∙_}
 use Rattle.geometry.specs.Measure.{millionths-of}
 use borrow.Author.Needs.{needs}
 use Rattle.geometry.proofs.measure.millionths_of.Statement.{statement}

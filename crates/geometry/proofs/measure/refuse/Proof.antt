@@ -1,6 +1,5 @@
 -- `geometry::measure::refuse` meets its contract. Assumes nothing.
-use mathlib.Core.Path.{_≡_, refl, sym, ap, _∙_}
-use Rattle.geometry.proofs.Measuring.{refused-is}
+use Rattle.geometry.proofs.Measuring.Answers.{refused-is}
 use Rattle.geometry.proofs.measure.refuse.Statement.{statement}
 use Rattle.geometry.proofs.measure.refuse.Tie as tie
 

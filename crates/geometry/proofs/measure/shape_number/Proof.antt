@@ -1,6 +1,5 @@
 -- `geometry::measure::shape_number` meets its contract: the operations in the stated order, with 432 as its literal. Assumes nothing.
-use mathlib.Core.Path.{_≡_, refl, sym, ap, _∙_}
-use Rattle.geometry.proofs.Measuring.{shape-is}
+use Rattle.geometry.proofs.Measuring.Answers.{shape-is}
 use Rattle.geometry.proofs.measure.shape_number.Statement.{statement}
 use Rattle.geometry.proofs.measure.shape_number.Tie as tie
 

@@ -1,6 +1,5 @@
 -- `geometry::measure::sized` meets its contract. Assumes nothing.
-use mathlib.Core.Path.{_≡_, refl, sym, ap, _∙_}
-use Rattle.geometry.proofs.Measuring.{sizes-are}
+use Rattle.geometry.proofs.Measuring.Answers.{sizes-are}
 use borrow.Author.Needs.{needs}
 use Rattle.geometry.proofs.measure.sized.Statement.{statement}
 use Rattle.geometry.proofs.measure.sized.Tie as tie

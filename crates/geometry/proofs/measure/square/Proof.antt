@@ -1,8 +1,9 @@
 -- `geometry::measure::square` meets its contract. Assumes nothing.
-use mathlib.Core.Path.{_≡_, refl, sym, ap, _∙_}
-use Rattle.geometry.specs.Range.{longest}
-use Rattle.geometry.proofs.Machine.{kept}
-use Rattle.geometry.proofs.Measuring.{square-is-of, dot-size}
+use mathlib.Core.Path.{_∙_}
+use Rattle.geometry.specs.inner.Bounded.{longest}
+use Rattle.geometry.proofs.Numbers.Machine.{kept}
+use Rattle.geometry.proofs.Space.Vectors.{dot-size}
+use Rattle.geometry.proofs.Measuring.Answers.{square-is-of}
 use borrow.Author.Needs.{needs}
 use Rattle.geometry.proofs.measure.square.Statement.{statement}
 use Rattle.geometry.proofs.measure.square.Tie as tie

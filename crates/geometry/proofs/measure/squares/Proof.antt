@@ -1,7 +1,7 @@
 -- `geometry::measure::squares` meets its contract: six squares of edges, and their sums, fit. Assumes nothing.
-use mathlib.Core.Path.{_≡_, refl, sym, ap, _∙_}
-use Rattle.geometry.proofs.Machine.{leaf, add, add-fits}
-use Rattle.geometry.proofs.Measuring.{squares-are}
+use mathlib.Core.Path.{_∙_}
+use Rattle.geometry.proofs.Numbers.Machine.{leaf, add, add-fits}
+use Rattle.geometry.proofs.Measuring.Answers.{squares-are}
 use borrow.Author.Needs.{needs}
 use Rattle.geometry.proofs.measure.squares.Statement.{statement}
 use Rattle.geometry.proofs.measure.squares.Tie as tie

@@ -7,8 +7,8 @@ use lib.IntN.{pos}
 use mir.Syntax.{w32}
 use borrow.Author.Needs.{needs}
 use Rattle.geometry.specs.Range.{far, any-far}
-use Rattle.geometry.proofs.Machine.{kept-at}
-use Rattle.geometry.proofs.Points.{far-here, far-later, none-left}
+use Rattle.geometry.proofs.Numbers.Machine.{kept-at}
+use Rattle.geometry.proofs.Space.Points.{far-here, far-later, none-left}
 use Rattle.geometry.proofs.range.any_far.Statement.{statement}
 use Rattle.geometry.proofs.range.any_far.Tie as tie
 

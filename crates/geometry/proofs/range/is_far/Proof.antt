@@ -1,7 +1,6 @@
 -- `geometry::range::is_far` meets its contract. Assumes nothing.
-use mathlib.Core.Path.{_≡_, refl, sym, ap, _∙_}
 use mir.Facts.{toZ-ofZ}
-use Rattle.geometry.proofs.Points.{far-below, far-above}
+use Rattle.geometry.proofs.Space.Points.{far-below, far-above}
 use borrow.Author.Needs.{needs}
 use Rattle.geometry.proofs.range.is_far.Statement.{statement}
 use Rattle.geometry.proofs.range.is_far.Tie as tie

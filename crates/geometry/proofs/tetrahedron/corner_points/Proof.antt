@@ -1,6 +1,6 @@
 -- `geometry::tetrahedron::corner_points` meets its contract. Assumes nothing.
-use Rattle.geometry.specs.Vectors.{corners-of}
-use Rattle.geometry.proofs.Vectors.{corners-are}
+use Rattle.geometry.specs.inner.Vectors.{corners-of}
+use Rattle.geometry.proofs.Space.Vectors.{corners-are}
 use borrow.Author.Needs.{needs}
 use Rattle.geometry.proofs.tetrahedron.corner_points.Statement.{statement}
 use Rattle.geometry.proofs.tetrahedron.corner_points.Tie as tie

@@ -1,8 +1,8 @@
 -- `geometry::tetrahedron::is_inside` meets its contract: the four signs one after the other. Assumes nothing.
-use mathlib.Core.Path.{_≡_, refl, sym, ap, _∙_}
+use mathlib.Core.Path.{sym, _∙_}
 use borrow.Author.Tests.{not-true, not-false}
 use Rattle.geometry.specs.Space.{points-in}
-use Rattle.geometry.proofs.Tetrahedra.{sign-is, for-a, for-b, for-c, for-d, outside-a, outside-b, outside-c, last-sign-decides}
+use Rattle.geometry.proofs.Space.Tetrahedra.{sign-is, for-a, for-b, for-c, for-d, outside-a, outside-b, outside-c, last-sign-decides}
 use borrow.Author.Needs.{needs}
 use Rattle.geometry.proofs.tetrahedron.is_inside.Statement.{statement}
 use Rattle.geometry.proofs.tetrahedron.is_inside.Tie as tie

@@ -1,8 +1,7 @@
 -- `geometry::tetrahedron::is_solid` meets its contract. Assumes nothing.
-use mathlib.Core.Path.{_≡_, refl, sym, ap, _∙_}
 use Rattle.geometry.specs.Space.{points-in}
-use Rattle.geometry.proofs.Machine.{tested}
-use Rattle.geometry.proofs.Tetrahedra.{solid-is}
+use Rattle.geometry.proofs.Numbers.Machine.{tested}
+use Rattle.geometry.proofs.Space.Tetrahedra.{solid-is}
 use borrow.Author.Needs.{needs}
 use Rattle.geometry.proofs.tetrahedron.is_solid.Statement.{statement}
 use Rattle.geometry.proofs.tetrahedron.is_solid.Tie as tie

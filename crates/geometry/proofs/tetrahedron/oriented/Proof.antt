@@ -1,7 +1,7 @@
 -- `geometry::tetrahedron::oriented` meets its contract. Assumes nothing.
-use mathlib.Core.Path.{_≡_, refl, sym, ap, _∙_}
+use mathlib.Core.Path.{_∙_}
 use Rattle.geometry.specs.Space.{points-in, D}
-use Rattle.geometry.proofs.Tetrahedra.{sign-is, turned-not, turned-round}
+use Rattle.geometry.proofs.Space.Tetrahedra.{sign-is, turned-not, turned-round}
 use borrow.Author.Needs.{needs}
 use Rattle.geometry.proofs.tetrahedron.oriented.Statement.{statement}
 use Rattle.geometry.proofs.tetrahedron.oriented.Tie as tie

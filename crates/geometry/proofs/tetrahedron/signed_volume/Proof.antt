@@ -1,8 +1,8 @@
 -- `geometry::tetrahedron::signed_volume` meets its contract. Assumes nothing.
-use mathlib.Core.Path.{_≡_, refl, sym, ap, _∙_}
+use mathlib.Core.Path.{_∙_}
 use Rattle.geometry.specs.Space.{points-in}
-use Rattle.geometry.proofs.Machine.{kept}
-use Rattle.geometry.proofs.Tetrahedra.{volume-is}
+use Rattle.geometry.proofs.Numbers.Machine.{kept}
+use Rattle.geometry.proofs.Space.Tetrahedra.{volume-is}
 use borrow.Author.Needs.{needs}
 use Rattle.geometry.proofs.tetrahedron.signed_volume.Statement.{statement}
 use Rattle.geometry.proofs.tetrahedron.signed_volume.Tie as tie

@@ -1,8 +1,8 @@
 -- `geometry::vector::coordinate` meets its contract: an i32 fits an i64. Assumes nothing.
 use lib.ListN.{getD}
-use lib.IntN.{ℤ, pos}
+use lib.IntN.{pos}
 use mir.Syntax.{w32, w64}
-use mir.Val.{SFits, toZ, ofZ}
+use mir.Val.{SFits}
 use mir.Facts.{toZ-ofZ, sfits-widen}
 use borrow.Author.Needs.{needs}
 use Rattle.geometry.proofs.vector.coordinate.Statement.{statement}

@@ -1,10 +1,7 @@
 -- `geometry::vector::cross` meets its contract: products of edges and their differences fit. Assumes nothing.
-use Rattle.geometry.specs.Vectors.{cross-product}
-use Rattle.geometry.proofs.Machine.{Is, leaf, mul, mul-fits, sub, sub-fits}
-use Rattle.geometry.proofs.Vectors.{built}
-use lib.IntN.{ℤ}
-use mir.Syntax.{w64}
-use mir.Val.{toZ, ofZ}
+use Rattle.geometry.specs.inner.Vectors.{cross-product}
+use Rattle.geometry.proofs.Numbers.Machine.{leaf, mul, mul-fits, sub, sub-fits}
+use Rattle.geometry.proofs.Space.Vectors.{built}
 use Rattle.geometry.proofs.vector.cross.Statement.{statement}
 use Rattle.geometry.proofs.vector.cross.Tie as tie
 

@@ -1,9 +1,9 @@
 -- `geometry::vector::det` meets its contract. Assumes nothing.
-use mathlib.Core.Path.{_≡_, refl, sym, _∙_}
-use Rattle.geometry.proofs.Machine.{kept}
+use mathlib.Core.Path.{refl, _∙_}
+use Rattle.geometry.proofs.Numbers.Machine.{kept}
 use borrow.Author.Needs.{needs}
-use Rattle.geometry.specs.Vectors.{det-of}
-use Rattle.geometry.proofs.Vectors.{dot-swapped}
+use Rattle.geometry.specs.inner.Vectors.{det-of}
+use Rattle.geometry.proofs.Space.Vectors.{dot-swapped}
 use Rattle.geometry.proofs.vector.det.Statement.{statement}
 use Rattle.geometry.proofs.vector.det.Tie as tie
 use Rattle.geometry.proofs.vector.det.Reads as reads

@@ -1,9 +1,6 @@
 -- `geometry::vector::dot` meets its contract: three products of a direction and an edge, and their sum, fit. Assumes nothing.
-use Rattle.geometry.specs.Vectors.{dot-product}
-use Rattle.geometry.proofs.Machine.{Is, leaf, mul, mul-fits, add, add-fits}
-use lib.IntN.{ℤ}
-use mir.Syntax.{w64}
-use mir.Val.{toZ, ofZ}
+use Rattle.geometry.specs.inner.Vectors.{dot-product}
+use Rattle.geometry.proofs.Numbers.Machine.{leaf, mul, mul-fits, add, add-fits}
 use Rattle.geometry.proofs.vector.dot.Statement.{statement}
 use Rattle.geometry.proofs.vector.dot.Tie as tie
 

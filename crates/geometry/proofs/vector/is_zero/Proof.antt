@@ -1,5 +1,5 @@
 -- `geometry::vector::is_zero` meets its contract. Assumes nothing.
-use Rattle.geometry.proofs.Machine.{zero-bits}
+use Rattle.geometry.proofs.Numbers.Machine.{zero-bits}
 use Rattle.geometry.proofs.vector.is_zero.Statement.{statement}
 use Rattle.geometry.proofs.vector.is_zero.Tie as tie
 use Rattle.geometry.proofs.vector.is_zero.Reads as reads

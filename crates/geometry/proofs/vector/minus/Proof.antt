@@ -1,10 +1,7 @@
 -- `geometry::vector::minus` meets its contract: coordinates in range have differences of at most twice the range. Assumes nothing.
-use Rattle.geometry.specs.Vectors.{difference}
-use Rattle.geometry.proofs.Machine.{Is, leaf, sub, sub-fits}
-use Rattle.geometry.proofs.Vectors.{built}
-use lib.IntN.{ℤ}
-use mir.Syntax.{w64}
-use mir.Val.{toZ, ofZ}
+use Rattle.geometry.specs.inner.Vectors.{difference}
+use Rattle.geometry.proofs.Numbers.Machine.{leaf, sub, sub-fits}
+use Rattle.geometry.proofs.Space.Vectors.{built}
 use Rattle.geometry.proofs.vector.minus.Statement.{statement}
 use Rattle.geometry.proofs.vector.minus.Tie as tie
 

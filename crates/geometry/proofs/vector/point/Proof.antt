@@ -1,9 +1,9 @@
 -- `geometry::vector::point` meets its contract: the three coordinates of a present point are there. Assumes nothing.
 use native.Mathlib.Omega.{arith}
-use mathlib.Core.Path.{_≡_, sym, _∙_}
-use Rattle.geometry.proofs.Machine.{kept}
-use Rattle.geometry.proofs.Vectors.{vector-is}
-use Rattle.geometry.proofs.Points.{last-coordinate, vector-at, point-bounded}
+use mathlib.Core.Path.{sym, _∙_}
+use Rattle.geometry.proofs.Numbers.Machine.{kept}
+use Rattle.geometry.proofs.Space.Vectors.{vector-is}
+use Rattle.geometry.proofs.Space.Points.{last-coordinate, vector-at, point-bounded}
 use Rattle.geometry.proofs.vector.point.Statement.{statement}
 use Rattle.geometry.proofs.vector.point.Tie as tie
 use Rattle.geometry.proofs.vector.point.Reads as reads

@@ -3,7 +3,7 @@ use mathlib.Core.Path.{sym, _∙_}
 use Rattle.geometry_c.proofs.Presence.{present-holds}
 use Rattle.geometry_c.proofs.Answers.{volume-present, volume-absent}
 use Rattle.geometry_c.specs.Checked.{volume-found, volume-refused}
-use Rattle.geometry.proofs.Machine.{kept}
+use Rattle.geometry.proofs.Numbers.Machine.{kept}
 use borrow.Author.Needs.{needs}
 use Rattle.geometry_c.proofs.checked.volume_of.Statement.{statement}
 use Rattle.geometry_c.proofs.checked.volume_of.Tie as tie

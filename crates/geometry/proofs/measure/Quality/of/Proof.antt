@@ -1,15 +1,13 @@
 -- `geometry::measure::Quality::of` meets its contract: the millionths between lo and hi, by halves. Assumes nothing.
-use borrow.Author.Needs.{needs}
 use native.Mathlib.Omega.{arith}
-use mathlib.Core.Path.{_≡_, refl, _∙_}
+use mathlib.Core.Path.{_≡_, _∙_}
 use mathlib.Core.Bool.{true, false}
 use native.Mathlib.Nat.{lt-irrefl}
 use Prim.Native.Nat.{ℕ, _+_, _-_, _/_, _<_, _≤_}
-use lib.Ieee.{binary64}
 use lib.Ieee as Ieee
-use Rattle.geometry.specs.Floor.{under, Floor}
-use Rattle.geometry.proofs.Measuring.{millionths-are}
-use Rattle.geometry.proofs.Millionths.{floor-is}
+use Rattle.geometry.specs.Floor.{under}
+use Rattle.geometry.proofs.Measuring.Answers.{millionths-are}
+use Rattle.geometry.proofs.Measuring.Millionths.{floor-is}
 use Rattle.geometry.proofs.measure.Quality.of.Statement.{statement}
 use Rattle.geometry.proofs.measure.Quality.of.Tie as tie
 

@@ -1,7 +1,0 @@
--- There are 44 directions for every two tetrahedra. Assumes nothing.
-use mathlib.Core.Path.{_≡_, refl}
-use Rattle.geometry.specs.Space.{directions, normals, edges-of, all-crosses, crosses, Directions-many}
-
-pub directions-many : Directions-many
-unfolding Directions-many directions normals edges-of all-crosses crosses
-directions-many ps f g = refl

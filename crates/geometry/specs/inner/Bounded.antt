@@ -1,0 +1,38 @@
+-- How large the vectors made of points in range are, so that no machine sum or product wraps. Assumes nothing: these are definitions.
+use Prim.Native.Nat.{ℕ, _+_, _*_, _≤_}
+use lib.IntN.{natAbs}
+use Rattle.geometry.specs.Range.{furthest}
+use Rattle.geometry.specs.declared.vector.Vector.{Vector}
+use Rattle.geometry.specs.declared.tetrahedron.Corners.{Corners}
+
+-- a coordinate of an edge
+abbrev pub longest : ℕ
+longest = furthest + furthest
+
+-- a coordinate of a direction: a cross product of two edges
+abbrev pub widest : ℕ
+widest = longest * longest + longest * longest
+
+-- a value of an edge along a direction
+abbrev pub deepest : ℕ
+deepest = widest * longest + (widest * longest + widest * longest)
+
+-- each coordinate at most n, either way
+pub record Bounded (n : ℕ) (v : Vector) : Type 0 where
+  pub x : natAbs (v .x) ≤ n
+  pub y : natAbs (v .y) ≤ n
+  pub z : natAbs (v .z) ≤ n
+
+pub record All-bounded (n : ℕ) (t : Corners) : Type 0 where
+  pub a : Bounded n (t .a)
+  pub b : Bounded n (t .b)
+  pub c : Bounded n (t .c)
+  pub d : Bounded n (t .d)
+
+-- four points in range
+abbrev pub In-range : Corners → Type 0
+In-range t = All-bounded furthest t
+
+-- four points seen from one in range
+abbrev pub In-reach : Corners → Type 0
+In-reach t = All-bounded longest t
