@@ -1,10 +1,10 @@
 // From a job to its printout: the search's filling or its refusal. Assumes nothing.
+use printing::print::print_filling;
+use printing::print::print_refusal;
 use search::search::search;
-use text::print::print_filling;
-use text::print::print_refusal;
 ghost use Prim.Native.Nat.{_≤_};
 ghost use lib.ListN.{length};
-ghost use Rattle.answer.specs.Answer.{Lists-printed};
+ghost use Rattle.answer.specs.inner.Lists.{Lists-printed};
 
 // The printout of the job that the lists are.
 pub(crate) fn print_lists(

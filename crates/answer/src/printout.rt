@@ -1,16 +1,16 @@
 // From text to printout: one function for any bytes and any buffer. Assumes nothing.
 use crate::lists::print_lists;
-use text::print::print_refusal;
-use text::read::Read;
-use text::read::read_job;
-ghost use mathlib.Core.Path.{_≡_};
+use printing::print::print_refusal;
+use reading::read::Read;
+use reading::read::read_job;
 ghost use Prim.Native.Nat.{_≤_};
 ghost use lib.ListN.{length};
-ghost use Rattle.text.specs.Reading.{handed, Job-read};
-ghost use Rattle.answer.specs.Answer.{Lists-printed, Text-printed, Answered, Read-fits};
+ghost use Rattle.reading.specs.Reading.{Counts-fit, handed, Job-read};
+ghost use Rattle.answer.specs.Answer.{Text-printed, Answered};
+ghost use Rattle.answer.specs.inner.Lists.{Lists-printed, arrays};
 
 // The bytes that hold every printout.
-pub const ROOM: usize = 43_695;
+const ROOM: usize = 43_695;
 
 // What was read, with the arrays that the lists stand first in.
 pub struct JobArrays {
@@ -22,7 +22,7 @@ pub struct JobArrays {
 }
 
 fn read_arrays(text: &[u8]) -> JobArrays
-    ensures { λ r. ⌜ Job-read (now (text .entry)) (r .read) (r .points) (r .triangles) (r .kept) (r .table) ⌝ }
+    ensures { λ r. ⌜ Job-read (now (text .entry)) (r .read) (arrays r) ⌝ }
 {
     let mut points: [i32; 51] = [0; 51];
     let mut triangles: [u8; 1683] = [0; 1683];
@@ -40,8 +40,8 @@ fn read_arrays(text: &[u8]) -> JobArrays
 
 // The printout of the lists that were read.
 fn print_arrays(a: JobArrays, out: &mut [u8]) -> usize
-    requires { ⌜ Read-fits (a .read) × (43695 ≤ length (now out)) ⌝ }
-    ensures { λ r. ⌜ Lists-printed (handed (a .read) (a .points) (a .triangles) (a .kept) (a .table)) (now (out .entry)) r (now (out .exit)) ⌝ }
+    requires { ⌜ Counts-fit (a .read) × (43695 ≤ length (now out)) ⌝ }
+    ensures { λ r. ⌜ Lists-printed (handed (a .read) (arrays a)) (now (out .entry)) r (now (out .exit)) ⌝ }
 {
     let read = a.read;
     let points = a.points;

@@ -12,7 +12,9 @@ use Rattle.geometry.specs.declared.tetrahedron.Four.{Four}
 use Rattle.laws.specs.Laws.{Job, lawful, worst, list-before}
 use Rattle.laws.specs.Choice.{Choice}
 use Rattle.laws.proofs.Basics.Tests.{contradiction, and-true, or-true, true-or-false}
-use Rattle.cases.proofs.Equality.{same-list, same-list-true, same-four, same-four-true}
+use Rattle.laws.specs.Fours.{same-four}
+use Rattle.laws.proofs.Order.FourOrder.{same-four-true}
+use Rattle.cases.proofs.Equality.{same-list, same-list-true}
 use Rattle.cases.proofs.Every.{every-list, every-lawful}
 
 abbrev same-or-later : (fs gs : List Four) → Bool

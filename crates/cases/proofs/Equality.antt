@@ -1,12 +1,17 @@
--- Tests that two lists are equal, and what they say. Assumes nothing.
-use mathlib.Core.Path.{_≡_, refl}
+-- Tests that two values are equal, and what they say. Assumes nothing.
+use mathlib.Core.Path.{_≡_, refl, ap}
 use mathlib.Core.Bool.{Bool, true, false, _&&_}
 use mathlib.Core.List.{List, [], _∷_}
+use mathlib.Core.Option.{Option, none, some}
 use Prim.Native.Nat.{ℕ}
 use lib.Dec.{eqb}
+use lib.IntN.{ℤ, pos, negsuc}
 use borrow.Author.Tests.{eqb-true}
 use Rattle.geometry.specs.declared.tetrahedron.Four.{Four}
+use Rattle.laws.specs.Lists.{Lists}
 use Rattle.laws.proofs.Basics.Tests.{contradiction, and-true}
+use Rattle.laws.specs.Fours.{same-four}
+use Rattle.laws.proofs.Order.FourOrder.{same-four-true}
 use Rattle.cases.specs.Cases.{Tetrahedron}
 
 abbrev pub same-list : {A : Type 0} → (A → A → Bool) → (xs ys : List A) → Bool
@@ -25,21 +30,6 @@ same-list-true same sound (x ∷ xs) (y ∷ ys) h =
     let p = sound x y (b .0) in
     let q = same-list-true same sound xs ys (b .1) in cc
 
-abbrev pub same-four : Four → Four → Bool
-same-four f g = (eqb (f .a) (g .a) && eqb (f .b) (g .b)) && (eqb (f .c) (g .c) && eqb (f .d) (g .d))
-
-pub same-four-true : (f g : Four) → same-four f g ≡ true → f ≡ g
-same-four-true f g h =
-    let k = and-true (eqb (f .a) (g .a) && eqb (f .b) (g .b)) (eqb (f .c) (g .c) && eqb (f .d) (g .d)) h in
-    let l = and-true (eqb (f .a) (g .a)) (eqb (f .b) (g .b)) (k .0) in
-    let r = and-true (eqb (f .c) (g .c)) (eqb (f .d) (g .d)) (k .1) in
-    alike (eqb-true (f .a) (g .a) (l .0)) (eqb-true (f .b) (g .b) (l .1)) (eqb-true (f .c) (g .c) (r .0)) (eqb-true (f .d) (g .d) (r .1))
-  where
-    alike :
-        {a b c d a′ b′ c′ d′ : ℕ} → a ≡ a′ → b ≡ b′ → c ≡ c′ → d ≡ d′ →
-        _≡_ {A = Four} (record { a = a; b = b; c = c; d = d }) (record { a = a′; b = b′; c = c′; d = d′ })
-    alike p q r s = cc
-
 abbrev pub same-tetrahedron : Tetrahedron → Tetrahedron → Bool
 same-tetrahedron t u =
     (same-four (t .corners) (u .corners) && eqb (t .volume) (u .volume)) && (eqb (t .quality) (u .quality) && eqb (t .outer) (u .outer))
@@ -57,3 +47,50 @@ same-tetrahedron-true t u h =
         {f f′ : Four} {v q o v′ q′ o′ : ℕ} → f ≡ f′ → v ≡ v′ → q ≡ q′ → o ≡ o′ →
         _≡_ {A = Tetrahedron} (record { corners = f; volume = v; quality = q; outer = o }) (record { corners = f′; volume = v′; quality = q′; outer = o′ })
     alike p q r s = cc
+
+-- ---- a job's lists
+abbrev pub same-number : ℤ → ℤ → Bool
+same-number (pos m) (pos n) = eqb m n
+same-number (pos m) (negsuc n) = false
+same-number (negsuc m) (pos n) = false
+same-number (negsuc m) (negsuc n) = eqb m n
+
+pub same-number-true : (x y : ℤ) → same-number x y ≡ true → x ≡ y
+same-number-true (pos m) (pos n) h = ap pos (eqb-true m n h)
+same-number-true (pos m) (negsuc n) h = contradiction h refl
+same-number-true (negsuc m) (pos n) h = contradiction h refl
+same-number-true (negsuc m) (negsuc n) h = ap negsuc (eqb-true m n h)
+
+abbrev pub same-lists : Lists → Lists → Bool
+same-lists k l =
+    (same-list same-number (k .points) (l .points) && same-list eqb (k .triangles) (l .triangles))
+    && (same-list eqb (k .kept) (l .kept) && same-list same-number (k .table) (l .table))
+
+pub same-lists-true : (k l : Lists) → same-lists k l ≡ true → k ≡ l
+same-lists-true k l h =
+    let points = same-list same-number (k .points) (l .points) in
+    let triangles = same-list eqb (k .triangles) (l .triangles) in
+    let kept = same-list eqb (k .kept) (l .kept) in
+    let table = same-list same-number (k .table) (l .table) in
+    let b = and-true (points && triangles) (kept && table) h in
+    let p = and-true points triangles (b .0) in
+    let q = and-true kept table (b .1) in
+    alike
+    (same-list-true same-number same-number-true (k .points) (l .points) (p .0))
+    (same-list-true eqb eqb-true (k .triangles) (l .triangles) (p .1))
+    (same-list-true eqb eqb-true (k .kept) (l .kept) (q .0))
+    (same-list-true same-number same-number-true (k .table) (l .table) (q .1))
+  where
+    alike :
+        {ps ps′ qs qs′ : List ℤ} {ts ts′ es es′ : List ℕ} → ps ≡ ps′ → ts ≡ ts′ → es ≡ es′ → qs ≡ qs′ →
+        _≡_ {A = Lists} (record { points = ps; triangles = ts; kept = es; table = qs }) (record { points = ps′; triangles = ts′; kept = es′; table = qs′ })
+    alike p q r s = cc
+
+-- a text says these lists
+abbrev pub same-read : Option Lists → Lists → Bool
+same-read none l = false
+same-read (some k) l = same-lists k l
+
+pub same-read-true : (r : Option Lists) (l : Lists) → same-read r l ≡ true → r ≡ some l
+same-read-true none l h = contradiction h refl
+same-read-true (some k) l h = ap some (same-lists-true k l h)

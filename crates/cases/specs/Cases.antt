@@ -1,9 +1,10 @@
 -- THE STARRED CAVITIES (document 01, "Cavities to try"): one table, and one statement that covers it. Assumes nothing: these are definitions.
 use mathlib.Core.Path.{_≡_}
 use mathlib.Core.Bool.{true}
-use mathlib.Core.List.{List, [], _∷_, map}
+use mathlib.Core.List.{List, [], _∷_, _++_, map}
 use mathlib.Core.Option.{none, some}
 use Prim.Native.Nat.{ℕ, _<_}
+use Prim.Native.String.{String}
 use lib.IntN.{ℤ, pos, negsuc}
 use Rattle.geometry.specs.Space.{four, points-in}
 use Rattle.geometry.specs.Measure.{D-of, S-of, double, shape-number, millionths, sizes, measured}
@@ -11,11 +12,14 @@ use Rattle.geometry.specs.declared.tetrahedron.Four.{Four}
 use Rattle.geometry.specs.declared.measure.Measured.{Measured}
 use Rattle.geometry.specs.declared.measure.Measurement.the-variants.{Shape}
 use Rattle.laws.specs.Laws.{Job, entry, quality, lawful, worst, list-before}
+use Rattle.laws.specs.Check.{job, job-refusal}
 use Rattle.laws.specs.Choice.{Choice}
 use Rattle.judge.specs.Judge.{judged}
-use Rattle.laws.specs.Lists.{Lists, job-of, refusal-of}
+use Rattle.laws.specs.Lists.{Lists}
 use Rattle.laws.specs.inner.Members.{Any}
-use Rattle.text.specs.Print.{boundary-faces}
+use Rattle.text.specs.Text.{read}
+use Rattle.text.specs.Print.{boundary-faces, filling-out, refusal-out}
+use Rattle.cases.specs.Characters.{characters}
 
 -- ---- a tetrahedron of a filling: its D, its quality, and how many of its outward faces are boundary triangles
 pub record Tetrahedron : Type 0 where
@@ -36,47 +40,54 @@ tetrahedron-of j f =
 unfoldable pub fours-of : List Tetrahedron → List Four
 fours-of ts = map (λ (t : Tetrahedron). t .corners) ts
 
+-- ---- what comes of a job
+pub data Outcome : Type 0 where
+  -- the filling handed out, with its worst quality
+  found : (filling : List Tetrahedron) → (least : ℕ) → Outcome
+  -- no lawful filling: 15
+  nothing : Outcome
+  -- a number from 2 to 13
+  refused : (number : ℕ) → Outcome
+
 -- ---- what a row says
 pub data Case : Type 0 where
-  -- the filling handed out, with its worst quality
-  found : Lists → (filling : List Tetrahedron) → (least : ℕ) → Case
+  -- what comes of a job
+  given : Lists → Outcome → Case
+  -- the same of a job's text: the lists that it says, what comes of them, and the printout
+  written : (text : List ℕ) → Lists → Outcome → (printout : List ℕ) → Case
   -- two lawful fillings of one worst quality, the first of which comes first
   tied : Lists → (first later : List Four) → (least : ℕ) → Case
-  -- no lawful filling: 15
-  nothing : Lists → Case
-  -- a number from 2 to 13
-  refused : Lists → (number : ℕ) → Case
   -- the lowest law that a list breaks
   breaks : Lists → (list : List ℕ) → (law : ℕ) → Case
   -- D, S and the millionths of four points
   measures : (coordinates : List ℤ) → (d s q : ℕ) → Case
 
 pub record Found-best (l : Lists) (ts : List Tetrahedron) (least : ℕ) : Type 0 where
-  pub accepted : refusal-of l ≡ 0
-  pub chosen : Choice (job-of l) (some (fours-of ts))
-  pub worth : worst (job-of l) (fours-of ts) ≡ least
-  pub each : map (tetrahedron-of (job-of l)) (fours-of ts) ≡ ts
+  pub accepted : job-refusal l ≡ 0
+  pub chosen : Choice (job l) (some (fours-of ts))
+  pub worth : worst (job l) (fours-of ts) ≡ least
+  pub each : map (tetrahedron-of (job l)) (fours-of ts) ≡ ts
 
 pub record Tied (l : Lists) (fs gs : List Four) (least : ℕ) : Type 0 where
-  pub accepted : refusal-of l ≡ 0
-  pub first-lawful : lawful (job-of l) fs ≡ true
-  pub later-lawful : lawful (job-of l) gs ≡ true
-  pub first-worth : worst (job-of l) fs ≡ least
-  pub later-worth : worst (job-of l) gs ≡ least
+  pub accepted : job-refusal l ≡ 0
+  pub first-lawful : lawful (job l) fs ≡ true
+  pub later-lawful : lawful (job l) gs ≡ true
+  pub first-worth : worst (job l) fs ≡ least
+  pub later-worth : worst (job l) gs ≡ least
   pub order : list-before fs gs ≡ true
 
 pub record None-lawful (l : Lists) : Type 0 where
-  pub accepted : refusal-of l ≡ 0
-  pub chosen : Choice (job-of l) none
+  pub accepted : job-refusal l ≡ 0
+  pub chosen : Choice (job l) none
 
 pub record Refused-as (l : Lists) (n : ℕ) : Type 0 where
   pub above : 0 < n
-  pub number : refusal-of l ≡ n
+  pub number : job-refusal l ≡ n
 
 pub record Breaks-law (l : Lists) (list : List ℕ) (n : ℕ) : Type 0 where
-  pub accepted : refusal-of l ≡ 0
+  pub accepted : job-refusal l ≡ 0
   pub above : 0 < n
-  pub lowest : judged (job-of l) list ≡ n
+  pub lowest : judged (job l) list ≡ n
 
 -- the measure of a solid four of this D and S
 unfoldable pub solid-measure : (d s : ℕ) → Measured
@@ -89,11 +100,25 @@ pub record Measures-as (cs : List ℤ) (d s q : ℕ) : Type 0 where
   pub whole : measured cs ≡ solid-measure d s
   pub value : millionths (shape-number (double d) (double s)) ≡ q
 
+unfoldable pub Comes : Lists → Outcome → Type 0
+Comes l (found ts w) = Found-best l ts w
+Comes l nothing = None-lawful l
+Comes l (refused n) = Refused-as l n
+
+unfoldable pub printout-of : Lists → Outcome → List ℕ
+printout-of l (found ts w) = filling-out (job l) (fours-of ts)
+printout-of l nothing = refusal-out 15
+printout-of l (refused n) = refusal-out n
+
+pub record Written-as (text : List ℕ) (l : Lists) (o : Outcome) (printout : List ℕ) : Type 0 where
+  pub reads : read text ≡ some l
+  pub comes : Comes l o
+  pub prints : printout-of l o ≡ printout
+
 unfoldable pub Holds : Case → Type 0
-Holds (found l ts w) = Found-best l ts w
+Holds (given l o) = Comes l o
+Holds (written bs l o out) = Written-as bs l o out
 Holds (tied l fs gs w) = Tied l fs gs w
-Holds (nothing l) = None-lawful l
-Holds (refused l n) = Refused-as l n
 Holds (breaks l list n) = Breaks-law l list n
 Holds (measures cs d s q) = Measures-as cs d s q
 
@@ -114,6 +139,12 @@ B-with es p q r =
 
 abbrev pub B : Lists
 B = B-with [] (pos 500000) (pos 400000) (pos 450000)
+
+-- its text, with the Q lines of 0123, 0124 and 0134 open
+abbrev pub B-text : (Q-lines : String) → List ℕ
+B-text qs =
+    characters "P,0,0,0\nP,6,0,0\nP,0,6,0\nP,1,1,5\nP,1,1,-5\nT,0,1,3\nT,1,2,3\nT,2,0,3\nT,1,0,4\nT,2,1,4\nT,0,2,4\n"
+    ++ (characters qs ++ characters "Q,0,2,3,4,450000\nQ,1,2,3,4,460000\n")
 
 abbrev pub tetrahedron : (a b c d volume quality outer : ℕ) → Tetrahedron
 tetrahedron a b c d v q o = record { corners = four a b c d; volume = v; quality = q; outer = o }
@@ -142,14 +173,15 @@ around = tetrahedron 0 1 2 4 16 1 1 ∷ tetrahedron 0 1 3 4 16 1 1 ∷ tetrahedr
 abbrev pub cases : List Case
 cases =
     measures points-A 1 9 592592
-    ∷ found B (three 450000) 450000
-    ∷ found (B-with [] (pos 500000) (pos 400000) (pos 400000)) (two 400000) 400000
+    ∷ written (B-text "Q,0,1,2,3,500000\nQ,0,1,2,4,400000\nQ,0,1,3,4,450000\n") B (found (three 450000) 450000)
+    (characters "F,3,450000\nH,0,1,3,4,450000,2\nH,0,2,3,4,450000,2\nH,1,2,3,4,460000,2\n")
+    ∷ given (B-with [] (pos 500000) (pos 400000) (pos 400000)) (found (two 400000) 400000)
     ∷ tied (B-with [] (pos 500000) (pos 400000) (pos 400000)) (fours-of (two 400000)) (fours-of (three 400000)) 400000
-    ∷ found (B-with [] (pos 500000) (pos 500000) (pos 450000)) (two 500000) 500000
-    ∷ found (B-with (3 ∷ 4 ∷ []) (pos 500000) (pos 500000) (pos 450000)) (three 450000) 450000
-    ∷ nothing (B-with [] (pos 500000) (pos 0) (pos 0))
-    ∷ refused (B-with [] (negsuc 0) (pos 400000) (pos 450000)) 13
-    ∷ found inner-point around 1
+    ∷ given (B-with [] (pos 500000) (pos 500000) (pos 450000)) (found (two 500000) 500000)
+    ∷ given (B-with (3 ∷ 4 ∷ []) (pos 500000) (pos 500000) (pos 450000)) (found (three 450000) 450000)
+    ∷ written (B-text "Q,0,1,2,3,500000\nQ,0,1,2,4,0\nQ,0,1,3,4,0\n") (B-with [] (pos 500000) (pos 0) (pos 0)) nothing (characters "R,15\n")
+    ∷ written (B-text "Q,0,1,2,4,400000\nQ,0,1,3,4,450000\n") (B-with [] (negsuc 0) (pos 400000) (pos 450000)) (refused 13) (characters "R,13\n")
+    ∷ given inner-point (found around 1)
     ∷ breaks B (0 ∷ 1 ∷ 2 ∷ 3 ∷ []) 4
     ∷ breaks B [] 4
     ∷ []

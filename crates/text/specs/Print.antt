@@ -5,11 +5,12 @@ use mathlib.Core.List.{List, [], _∷_, _++_}
 use mathlib.Core.Option.{Option, none, some}
 use Prim.Native.Nat.{ℕ, zero, suc, _+_, _/_, _%_}
 use lib.Dec.{ltb}
-use lib.ListN.{length}
+use lib.ListN.{length, drop}
 use Rattle.geometry.specs.Space.{turned}
 use Rattle.geometry.specs.declared.tetrahedron.Four.{Four}
 use Rattle.laws.specs.Laws.{Job, Tri, faces, has, entry, quality, worst}
-use Rattle.laws.specs.Lists.{Lists, job-of}
+use Rattle.laws.specs.Check.{job}
+use Rattle.laws.specs.Lists.{Lists}
 use Rattle.laws.specs.Choice.{Choice}
 use Rattle.text.specs.Text.{LF, comma, read, read-refusal}
 
@@ -72,9 +73,14 @@ unfoldable pub choice-out : Job → Option (List Four) → List ℕ
 choice-out j none = refusal-out 15
 choice-out j (some fs) = filling-out j fs
 
+-- ---- into a lent buffer: the bytes at the start, and how many; what is behind them keeps its value
+pub record Prints (bytes old : List ℕ) (count : ℕ) (new : List ℕ) : Type 0 where
+  pub size : count ≡ length bytes
+  pub buffer : new ≡ bytes ++ drop (length bytes) old
+
 -- ---- the program: 1; 2 to 13; 15; else the best filling. It lends a buffer that suffices, so it never gives 14.
 unfoldable pub Printed-lists : (refusal : ℕ) → Lists → (out : List ℕ) → Type 0
-Printed-lists zero l out = (c : Option (List Four)) × Choice (job-of l) c × (out ≡ choice-out (job-of l) c)
+Printed-lists zero l out = (c : Option (List Four)) × Choice (job l) c × (out ≡ choice-out (job l) c)
 Printed-lists (suc n) l out = out ≡ refusal-out (suc n)
 
 unfoldable pub Printed-read : Option Lists → (out : List ℕ) → Type 0

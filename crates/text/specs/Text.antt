@@ -9,8 +9,9 @@ use lib.IntN.{ℤ, pos, negsuc}
 use Rattle.geometry.specs.Space.{four, points-in}
 use Rattle.geometry.specs.declared.tetrahedron.Four.{Four}
 use Rattle.laws.specs.Laws.{rising}
-use Rattle.laws.specs.Lists.{Lists, refusal-of}
-use Rattle.laws.specs.Fours.{all-fours}
+use Rattle.laws.specs.Check.{job-refusal}
+use Rattle.laws.specs.Lists.{Lists}
+use Rattle.laws.specs.Fours.{all-fours, same-four}
 
 -- ---- bytes
 abbrev pub LF : ℕ
@@ -150,9 +151,6 @@ unfoldable pub fields-with : (letter : ℕ) → List Line → List (List ℕ)
 fields-with k [] = []
 fields-with k (l ∷ ls) = cond (eqb (l .letter) k) (l .fields) [] ++ fields-with k ls
 
-unfoldable pub same-four : Four → Four → Bool
-same-four f g = (eqb (f .a) (g .a) && eqb (f .b) (g .b)) && (eqb (f .c) (g .c) && eqb (f .d) (g .d))
-
 -- some of these Q lines is for this four
 unfoldable pub has-four : Four → List Line → Bool
 has-four f [] = false
@@ -183,18 +181,17 @@ lists ls =
       table = text-table (min (length (points-in ps)) 16) (only letter-Q ls);
     }
 
+abbrev pub text-lists : (text : List ℕ) → Lists
+text-lists bs = lists (text-lines bs)
+
 -- WHAT THE PROGRAM READS: none for number 1
 unfoldable pub read : (text : List ℕ) → Option Lists
-read bs = cond (text-form bs) (some (lists (text-lines bs))) none
+read bs = cond (text-form bs) (some (text-lists bs)) none
 
 -- the program's refusal from the text alone: 1, or the checker's 2 to 13 with 11's text cases
 unfoldable pub read-refusal : Option Lists → ℕ
 read-refusal none = 1
-read-refusal (some l) = refusal-of l
+read-refusal (some l) = job-refusal l
 
 unfoldable pub text-refusal : (text : List ℕ) → ℕ
 text-refusal bs = read-refusal (read bs)
-
--- A number above 255 does not fit the library's bytes. Put as 255 it is an absent point still.
-unfoldable pub as-byte : ℕ → ℕ
-as-byte n = min n 255

@@ -1,8 +1,1 @@
-// Job text and printout.
-// Assumes nothing.
-pub mod field;
-pub mod line;
-pub mod print;
-pub mod read;
-pub mod run;
-pub mod table;
+// What a job text says, what is printed, and the theory of both. No functions: crates parsing and reading read, crate answer prints.

@@ -1,11 +1,9 @@
 -- `answer::printout::print_arrays` meets its contract. Assumes nothing.
-use mathlib.Core.Path.{_≡_, refl, sym, subst, _∙_}
-use Prim.Native.Nat.{ℕ, _≤_}
+use mathlib.Core.Path.{_≡_}
 use native.Mathlib.Omega.{arith}
-use borrow.Author.Needs.{needs, length-unmapped}
-use lib.ListN.{length, take}
-use lib.IntN.{ℤ}
-use Rattle.text.specs.Reading.{handed}
+use borrow.Author.Needs.{needs}
+use lib.ListN.{length}
+use Rattle.reading.specs.Reading.{handed}
 use Rattle.answer.proofs.Prefixes.{front-long}
 use Rattle.answer.proofs.printout.print_arrays.Statement.{statement}
 use Rattle.answer.proofs.printout.print_arrays.Tie as tie
