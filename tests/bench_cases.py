@@ -1,6 +1,9 @@
 #!/usr/bin/env python3
-"""Makes the input of crates/bench_cases from the shared bench sessions and meshes (default ../shared/jobs): standard output.
+"""Makes the input of crates/bench_cases from the shared bench sessions and meshes (default ../shared/jobs), and sessions of its own for 37 and 38: standard output.
 Values that the struct of fixed arrays can't hold (qualities of another count than the tetrahedra, a cavity's number above 255) are left out and counted on standard error."""
+import functools
+import itertools
+import operator
 import pathlib
 import sys
 
@@ -83,6 +86,53 @@ def replay(path):
     return out
 
 
+# ---- 37 and 38, which no shared session meets. Document 01 settles each answer, as the comments say.
+# The face 0, 1, 2 with a point on either side: the cavity of both tetrahedra has two fillings, those two, and three round the edge 3, 4.
+PAIR = [(60, 0, 0), (0, 60, 0), (0, 0, 60), (5, 5, 5), (35, 35, 35)]
+TWO = [(0, 1, 2, 3), (0, 1, 2, 4)]
+THREE = [(0, 1, 3, 4), (0, 2, 3, 4), (1, 2, 3, 4)]
+# Any four points of the curve are solid. The exclusive or of a four's numbers is 0, so three of them settle the fourth, and two fours share two points at most.
+CURVE = [(t, t * t, t * t * t) for t in range(-16, 16)]
+APART = [f for f in itertools.combinations(range(len(PAIR), len(PAIR + CURVE)), 4) if functools.reduce(operator.xor, f) == 0]
+
+
+def quality(points, four):
+    a, b, c, d = (points[i] for i in four)
+    u, v, w = ([x - y for x, y in zip(p, a)] for p in (b, c, d))
+    volume = sum(u[i] * (v[i - 2] * w[i - 1] - v[i - 1] * w[i - 2]) for i in range(3))
+    squares = sum((x - y) ** 2 for p, q in itertools.combinations((a, b, c, d), 2) for x, y in zip(p, q))
+    shape = 432.0 * (float(volume) * volume) / (float(squares) * squares * squares)
+    return min(max(int(shape * 1_000_000), 1), 1_000_000) if volume else 0
+
+
+def listed(points, tets):
+    return ','.join(str(x) for p in points for x in p), ','.join(str(i) for t in tets for i in t)
+
+
+def replaced(points, rest, number):
+    """The cavity of the two is opened and grown to both, for no other tetrahedron shares a face with the first; then replaced."""
+    assert all(len(set(TWO[0]) & set(t)) < 3 for t in rest)
+    # no 36
+    assert min(quality(points, t) for t in THREE) > min(quality(points, t) for t in TWO)
+    out = ['F', 'L;' + ';'.join(listed(points, TWO + rest)) + ';0', 'O;0;0', 'V;1;0;0,1,2,3', 'G;0', 'V;1;0,1;0,1,2,3,4', f'R;{number}']
+    if number:
+        return out + ['U', 'C;0']
+    new = rest + THREE
+    qualities = ','.join(str(quality(points, t)) for t in new)
+    return out + ['B;' + ';'.join((*listed(points, new), qualities, '0;;;1'))]
+
+
+def made():
+    # One more than 256, and 256.
+    yield replaced(PAIR + CURVE, APART[:254], 37)
+    yield replaced(PAIR + CURVE, APART[:253], 0)
+    # Of the points 0, 3, 4 the three tetrahedra have both outward faces, so a tetrahedron outside has one of them too, in whatever order its corners stand; a neighbour on the boundary has none.
+    aside = PAIR + [(-20, -19, -20), (60, 60, 0)]
+    yield replaced(aside, [(0, 3, 4, 5)], 38)
+    yield replaced(aside, [(4, 5, 0, 3)], 38)
+    yield replaced(aside, [(0, 1, 4, 6)], 0)
+
+
 def main():
     jobs = pathlib.Path(sys.argv[1] if len(sys.argv) > 1 else '../shared/jobs')
     left_out = 0
@@ -95,6 +145,8 @@ def main():
             print('\n'.join(lines))
     for path in sorted((jobs / 'meshes').glob('*.mesh')):
         print('\n'.join(replay(path)))
+    for lines in made():
+        print('\n'.join(lines))
     print(f'{left_out} sessions left out', file=sys.stderr)
 
 

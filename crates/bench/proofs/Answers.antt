@@ -1,14 +1,12 @@
 -- A state's number read as what is held, and what close answers. Assumes nothing.
 use mathlib.Core.Path.{_≡_, sym, ap, _∙_}
-use mathlib.Core.List.{[]}
+use mathlib.Core.Option.{none}
 use Prim.Native.Nat.{ℕ}
 use Rattle.bench_rules.specs.Bench.{Held, no-mesh, mesh, held, refused, done, with-cavity, close, close-as}
-use Rattle.bench_rules.specs.Marks.{marks}
 use Rattle.bench.specs.declared.bench.Bench.{Bench}
 use Rattle.bench.specs.declared.bench.Answer.{Answer}
-use Rattle.mesh.specs.State.{state-of}
-use Rattle.bench.specs.Parts.{remarked}
-use Rattle.bench.specs.Store.{shown, answer, laid, laid-cavity, closed, open-byte, cavity-tets, cavity-points}
+use Rattle.mesh.specs.inner.State.{state-of}
+use Rattle.bench.specs.Store.{shown, answer, stored-cavity, closed}
 use Rattle.bench.proofs.HeldValue.{state-none, state-mesh, state-one, state-open, opened-marks}
 
 abbrev pub with-number : ℕ → Bench → Answer
@@ -29,9 +27,9 @@ mesh-state s e p q = state-one (held (shown s)) (λ z. p (e ∙ z)) (λ z. q (e 
 
 -- ---- close
 module _ (s : Bench) where
-  close-by : (h : Held) → held (shown s) ≡ h → answer (close-as h (shown s) .number) s (laid-cavity s (close-as h (shown s) .bench)) ≡ closed s
+  close-by : (h : Held) → held (shown s) ≡ h → answer (close-as h (shown s) .number) s (stored-cavity s (close-as h (shown s) .bench)) ≡ closed s
   unfolding closed close
-  close-by h e = sym (ap (λ (x : Held). answer (close-as x (shown s) .number) s (laid-cavity s (close-as x (shown s) .bench))) e)
+  close-by h e = sym (ap (λ (x : Held). answer (close-as x (shown s) .number) s (stored-cavity s (close-as x (shown s) .bench))) e)
 
   pub close-none : held (shown s) ≡ no-mesh → with-number 31 s ≡ closed s
   unfolding close-as refused answer
@@ -41,6 +39,6 @@ module _ (s : Bench) where
   unfolding close-as refused answer
   close-mesh e = close-by mesh e
 
-  pub close-open : state-of (held (shown s)) ≡ 2 → {t : Bench} → t ≡ remarked s (marks 256 []) (marks 64 []) 0 → with-number 0 t ≡ closed s
-  unfolding close-as done with-cavity answer laid laid-cavity remarked open-byte cavity-tets cavity-points
+  pub close-open : state-of (held (shown s)) ≡ 2 → {t : Bench} → t ≡ stored-cavity s (with-cavity (shown s) none) → with-number 0 t ≡ closed s
+  unfolding close-as done answer
   close-open e f = ap (with-number 0) f ∙ close-by _ (opened-marks s e)

@@ -13,14 +13,15 @@ use Rattle.geometry.specs.Space.{points-in}
 use Rattle.laws.proofs.Checker.Points.{points-count}
 use Rattle.laws.proofs.Basics.Tests.{and-true}
 use Rattle.bench_rules.specs.Bench as B
-use Rattle.bench_rules.specs.Bench.{Cavity, Held, no-mesh, mesh, opened, held, held-with, mesh-good, cavity-good}
-use Rattle.bench_rules.specs.Marks.{entries}
-use Rattle.bench_rules.specs.Sound.{bench-of, cavity-by, marked-cavity}
-use Rattle.bench_rules.proofs.GoodMesh.{Mesh, held-true, is-held}
-use Rattle.mesh.specs.State.{state-of}
-use Rattle.bench_rules.proofs.Entries.{entries-length, entries-within}
+use Rattle.bench_rules.specs.Bench.{Cavity, Held, no-mesh, mesh, opened, held, held-with, mesh-good}
+use Rattle.bench_rules.specs.inner.Marks.{entries}
+use Rattle.bench_rules.specs.inner.Sound.{bench-of, cavity-by, marked-cavity}
+use Rattle.bench_rules.proofs.Mesh.Good.{Mesh, held-true, is-held, cavity-passes}
+use Rattle.mesh.specs.inner.State.{state-of}
+use Rattle.bench_rules.proofs.Marks.Entries.{entries-length, entries-within}
 use Rattle.bench.specs.declared.bench.Bench.{Bench}
-use Rattle.bench.specs.Store.{shown, Fits}
+use Rattle.bench.specs.Store.{shown}
+use Rattle.bench.specs.inner.Steps.{Fits}
 
 -- ---- the counts of a mesh
 pub record Counts (s : Bench) : Type 0 where
@@ -60,7 +61,7 @@ pub shown-is :
     (s : Bench) → Fits s → Counts s →
     shown s
     ≡ bench-of (take (s .«point_count» * 3) (s .points)) (take (s .«tet_count» * 4) (s .tets)) (take (s .«tet_count») (s .qualities))
-    (cavity-by (s .«open») (s .«in_cavity») (s .«in_points»)) (s .count)
+    (cavity-by (s .«open») (s .«in_cavity») (s .«in_points»)) (s .replacements)
 unfolding shown bench-of
 shown-is s f k =
     let n = s .«point_count» in
@@ -76,9 +77,9 @@ shown-is s f k =
     let ep : entries (3 * n) (pos 0) (s .points) ≡ take (n * 3) (s .points) = entries-within (pos 0) (3 * n) (s .points) (omega arith) ∙ ap (λ (i : ℕ). take i (s .points)) n3 in
     let et : entries (4 * m) 0 (s .tets) ≡ take (m * 4) (s .tets) = entries-within 0 (4 * m) (s .tets) (omega arith) ∙ ap (λ (i : ℕ). take i (s .tets)) m4 in
     let eq : entries m 0 (s .qualities) ≡ take m (s .qualities) = entries-within 0 m (s .qualities) (omega arith) in
-    ap (λ (x : List ℤ). bench-of x (entries (4 * m) 0 (s .tets)) (entries m 0 (s .qualities)) c (s .count)) ep
-    ∙ ap (λ (x : List ℕ). bench-of (take (n * 3) (s .points)) x (entries m 0 (s .qualities)) c (s .count)) et
-    ∙ ap (λ (x : List ℕ). bench-of (take (n * 3) (s .points)) (take (m * 4) (s .tets)) x c (s .count)) eq
+    ap (λ (x : List ℤ). bench-of x (entries (4 * m) 0 (s .tets)) (entries m 0 (s .qualities)) c (s .replacements)) ep
+    ∙ ap (λ (x : List ℕ). bench-of (take (n * 3) (s .points)) x (entries m 0 (s .qualities)) c (s .replacements)) et
+    ∙ ap (λ (x : List ℕ). bench-of (take (n * 3) (s .points)) (take (m * 4) (s .tets)) x c (s .replacements)) eq
 
 -- ---- what the numbers 0, 1, 2 say
 pub state-none : (h : Held) → state-of h ≡ 0 → h ≡ no-mesh
@@ -120,7 +121,7 @@ opened-marks s = go (mesh-good (shown s)) (eqb (s .«open») 0)
     go : (g o : Bool) → state-of (held-with g (shown s) (cond o none (some c))) ≡ 2 → held-with g (shown s) (cond o none (some c)) ≡ opened c
     go false o e = absurd (omega arith)
     go true true e = absurd (omega arith)
-    go true false e = inner (cavity-good (shown s) c) e
+    go true false e = inner (cavity-passes (shown s) c) e
 
 -- ---- no mesh
 pub no-mesh-state : (s : Bench) → (Mesh (shown s) → ⊥) → 0 ≡ state-of (held (shown s))
@@ -147,4 +148,4 @@ pub state-is :
     (bench-of (take (s .«point_count» * 3) (s .points)) (take (s .«tet_count» * 4) (s .tets)) (take (s .«tet_count») (s .qualities))
     (cavity-by (s .«open») (s .«in_cavity») (s .«in_points»)) k))) →
     r ≡ state-of (held (shown s))
-state-is s f k r h = h (s .count) ∙ ap (λ (b : B.Bench). state-of (held b)) (sym (shown-is s f k))
+state-is s f k r h = h (s .replacements) ∙ ap (λ (b : B.Bench). state-of (held b)) (sym (shown-is s f k))

@@ -1,21 +1,20 @@
--- What load answers, by what the value handed over holds and by the mesh's refusal; the mesh laid out. Assumes nothing.
+-- What load answers, by what the value handed over holds and by the mesh's refusal; the mesh stored. Assumes nothing.
 use mathlib.Core.Path.{_≡_, refl, sym, ap, _∙_}
 use mathlib.Core.List.{List, []}
-use mathlib.Core.Option.{none}
 use Prim.Native.Nat.{ℕ, zero, suc, _/_}
 use native.Mathlib.Omega.{arith}
 use lib.ListN.{length}
 use lib.IntN.{ℤ, pos}
 use Rattle.laws.proofs.Checker.Points.{points-count}
-use Rattle.bench_rules.specs.Bench.{Held, no-mesh, mesh, opened, held, refused, done, load, load-as, load-mesh, mesh-refusal, mesh-qualities}
-use Rattle.bench_rules.specs.Marks.{marks, entries}
-use Rattle.bench_rules.specs.Sound.{bench-of, Sound-mesh}
-use Rattle.bench_rules.proofs.GoodMesh.{Good}
+use Rattle.bench_rules.specs.Bench.{Held, no-mesh, mesh, opened, held, refused, done, load, load-as, load-mesh, mesh-refusal, mesh-qualities, mesh-alone}
+use Rattle.bench_rules.specs.inner.Marks.{marks, entries}
+use Rattle.bench_rules.specs.inner.Sound.{Sound-mesh}
+use Rattle.bench_rules.proofs.Mesh.Good.{Good}
 use Rattle.bench.specs.declared.bench.Bench.{Bench}
-use Rattle.mesh.specs.State.{state-of}
-use Rattle.bench.specs.Store.{shown, answer, laid, loaded, open-byte, cavity-tets, cavity-points}
+use Rattle.mesh.specs.inner.State.{state-of}
+use Rattle.bench.specs.Store.{shown, answer, stored, loaded, open-byte, cavity-tets, cavity-points}
 use Rattle.bench.proofs.HeldValue.{opened-marks}
-use Rattle.bench.proofs.LaidOut.{good-sizes}
+use Rattle.bench.proofs.StoredLists.{good-sizes}
 use Rattle.bench.proofs.Answers.{with-number}
 
 -- ---- a mesh that is not refused
@@ -26,7 +25,7 @@ sound-mesh cs ts g =
     let e = points-count cs in
     record { near = g .near; points-few = omega arith; tets-few = z .tets-few; whole = z .tets-whole; sound = g .tets-good }
 
-pub laid-mesh-is :
+pub stored-mesh-is :
     (cs : List ℤ) (ts : List ℕ) (k : ℕ) {p : List ℤ} {t q : List ℕ} → p ≡ entries 192 (pos 0) cs → t ≡ entries 1024 0 ts → q ≡ entries 256 0 (mesh-qualities cs ts) →
     _≡_ {A = Bench}
     (record {
@@ -37,17 +36,17 @@ pub laid-mesh-is :
       «in_points» = marks 64 [];
       «point_count» = length cs / 3;
       «tet_count» = length ts / 4;
-      count = k;
+      replacements = k;
       «open» = 0;
     })
-    (laid (bench-of cs ts (mesh-qualities cs ts) none k))
-unfolding laid bench-of open-byte cavity-tets cavity-points
-laid-mesh-is cs ts k a b c = cc
+    (stored (mesh-alone cs ts k))
+unfolding stored open-byte cavity-tets cavity-points
+stored-mesh-is cs ts k a b c = cc
 
 module _ (s : Bench) (cs : List ℤ) (ts : List ℕ) where
-  load-by : (h : Held) → held (shown s) ≡ h → answer (load-as h (shown s) cs ts .number) s (laid (load-as h (shown s) cs ts .bench)) ≡ loaded s cs ts
+  load-by : (h : Held) → held (shown s) ≡ h → answer (load-as h (shown s) cs ts .number) s (stored (load-as h (shown s) cs ts .bench)) ≡ loaded s cs ts
   unfolding loaded load
-  load-by h e = sym (ap (λ (x : Held). answer (load-as x (shown s) cs ts .number) s (laid (load-as x (shown s) cs ts .bench))) e)
+  load-by h e = sym (ap (λ (x : Held). answer (load-as x (shown s) cs ts .number) s (stored (load-as x (shown s) cs ts .bench))) e)
 
   pub load-open : state-of (held (shown s)) ≡ 2 → with-number 32 s ≡ loaded s cs ts
   unfolding load-as refused answer
@@ -56,11 +55,11 @@ module _ (s : Bench) (cs : List ℤ) (ts : List ℕ) where
   -- no open cavity: the mesh's refusal decides
   load-at :
       (state-of (held (shown s)) ≡ 2 → ⊥) → (n : ℕ) → mesh-refusal cs ts ≡ n →
-      answer (load-mesh n (shown s) cs ts .number) s (laid (load-mesh n (shown s) cs ts .bench)) ≡ loaded s cs ts
+      answer (load-mesh n (shown s) cs ts .number) s (stored (load-mesh n (shown s) cs ts .bench)) ≡ loaded s cs ts
   unfolding load-as state-of
-  load-at f n e = sym (ap (λ (k : ℕ). answer (load-mesh k (shown s) cs ts .number) s (laid (load-mesh k (shown s) cs ts .bench))) e) ∙ go (held (shown s)) refl
+  load-at f n e = sym (ap (λ (k : ℕ). answer (load-mesh k (shown s) cs ts .number) s (stored (load-mesh k (shown s) cs ts .bench))) e) ∙ go (held (shown s)) refl
     where
-      go : (h : Held) → held (shown s) ≡ h → answer (load-mesh (mesh-refusal cs ts) (shown s) cs ts .number) s (laid (load-mesh (mesh-refusal cs ts) (shown s) cs ts .bench)) ≡ loaded s cs ts
+      go : (h : Held) → held (shown s) ≡ h → answer (load-mesh (mesh-refusal cs ts) (shown s) cs ts .number) s (stored (load-mesh (mesh-refusal cs ts) (shown s) cs ts .bench)) ≡ loaded s cs ts
       go no-mesh h = load-by no-mesh h
       go mesh h = load-by mesh h
       go (opened c) h = absurd (f (ap state-of h))
@@ -70,6 +69,6 @@ module _ (s : Bench) (cs : List ℤ) (ts : List ℕ) where
   load-refused f zero e p = absurd (p refl)
   load-refused f (suc n) e p = load-at f (suc n) (sym e)
 
-  pub load-done : (state-of (held (shown s)) ≡ 2 → ⊥) → mesh-refusal cs ts ≡ 0 → {b : Bench} → b ≡ laid (bench-of cs ts (mesh-qualities cs ts) none (s .count)) → with-number 0 b ≡ loaded s cs ts
-  unfolding load-mesh done answer bench-of shown
+  pub load-done : (state-of (held (shown s)) ≡ 2 → ⊥) → mesh-refusal cs ts ≡ 0 → {b : Bench} → b ≡ stored (mesh-alone cs ts (s .replacements)) → with-number 0 b ≡ loaded s cs ts
+  unfolding load-mesh done answer shown
   load-done f e r = ap (with-number 0) r ∙ load-at f 0 e

@@ -9,20 +9,20 @@ use borrow.Author.Tests.{lt-ltb, le-ltb}
 use lib.Dec.{ltb}
 use lib.ListN.{length, take}
 use Rattle.bench_rules.specs.Bench.{Cavity, Done, Held, no-mesh, mesh, held, refused, done, with-cavity, mesh-fours, points-of, open-at, open-as}
-use Rattle.bench_rules.specs.Marks.{marks}
-use Rattle.mesh.specs.State.{state-of}
-use Rattle.bench_rules.proofs.MeshFours.{mesh-fours-length}
+use Rattle.bench_rules.specs.inner.Marks.{marks}
+use Rattle.mesh.specs.inner.State.{state-of}
+use Rattle.bench_rules.proofs.Mesh.Fours.{mesh-fours-length}
 use Rattle.bench.specs.declared.bench.Bench.{Bench}
-use Rattle.bench.specs.Parts.{remarked}
-use Rattle.bench.specs.Store.{shown, answer, laid, laid-cavity, opened-at, open-byte, cavity-tets, cavity-points}
+use Rattle.bench.specs.inner.Steps.{Has-cavity}
+use Rattle.bench.specs.Store.{shown, answer, stored-cavity, opened-at}
 use Rattle.bench.proofs.HeldValue.{opened-marks, shown-point-count, shown-tet-count}
 use Rattle.bench.proofs.HeldMesh.{Held-mesh}
 use Rattle.bench.proofs.Answers.{with-number}
 
 module _ (s : Bench) (t : ℕ) where
-  open-by : (h : Held) → held (shown s) ≡ h → answer (open-as h (shown s) t .number) s (laid-cavity s (open-as h (shown s) t .bench)) ≡ opened-at s t
+  open-by : (h : Held) → held (shown s) ≡ h → answer (open-as h (shown s) t .number) s (stored-cavity s (open-as h (shown s) t .bench)) ≡ opened-at s t
   unfolding opened-at open-at
-  open-by h e = sym (ap (λ (x : Held). answer (open-as x (shown s) t .number) s (laid-cavity s (open-as x (shown s) t .bench))) e)
+  open-by h e = sym (ap (λ (x : Held). answer (open-as x (shown s) t .number) s (stored-cavity s (open-as x (shown s) t .bench))) e)
 
   pub open-none : held (shown s) ≡ no-mesh → with-number 31 s ≡ opened-at s t
   unfolding open-as refused answer
@@ -39,9 +39,9 @@ module _ (s : Bench) (t : ℕ) where
   tested : Bool → Done
   tested u = cond u (done (with-cavity (shown s) (some one))) (refused 20 (shown s))
 
-  open-tested : (u : Bool) → held (shown s) ≡ mesh → ltb t (length (mesh-fours (shown s .tets))) ≡ u → answer (tested u .number) s (laid-cavity s (tested u .bench)) ≡ opened-at s t
+  open-tested : (u : Bool) → held (shown s) ≡ mesh → ltb t (length (mesh-fours (shown s .tets))) ≡ u → answer (tested u .number) s (stored-cavity s (tested u .bench)) ≡ opened-at s t
   unfolding open-as tested one
-  open-tested u e k = sym (ap (λ (v : Bool). answer (tested v .number) s (laid-cavity s (tested v .bench))) k) ∙ open-by mesh e
+  open-tested u e k = sym (ap (λ (v : Bool). answer (tested v .number) s (stored-cavity s (tested v .bench))) k) ∙ open-by mesh e
 
   tets-counted : length (mesh-fours (shown s .tets)) ≡ s .«tet_count»
   tets-counted = mesh-fours-length (shown s .tets) ∙ shown-tet-count s
@@ -52,16 +52,13 @@ module _ (s : Bench) (t : ℕ) where
 
   pub open-done :
       Held-mesh s → held (shown s) ≡ mesh → t < s .«tet_count» → {b : Bench} {cm pm : List ℕ} → cm ≡ marks 256 (t ∷ []) →
-      pm ≡ marks 64 (points-of (s .«point_count») (mesh-fours (take (s .«tet_count» * 4) (s .tets))) (t ∷ [])) → b ≡ remarked s cm pm 1 →
+      pm ≡ marks 64 (points-of (s .«point_count») (mesh-fours (take (s .«tet_count» * 4) (s .tets))) (t ∷ [])) → Has-cavity s cm pm b →
       with-number 0 b ≡ opened-at s t
-  unfolding tested one done with-cavity answer laid laid-cavity remarked open-byte cavity-tets cavity-points
+  unfolding Has-cavity tested one done answer
   open-done h e l {b} {cm} {pm} c p r =
       let k = tets-counted in
       let ts = shown s .tets in
       let q : marks 64 (points-of (s .«point_count») (mesh-fours (take (s .«tet_count» * 4) (s .tets))) (t ∷ [])) ≡ marks 64 (points-of (length (shown s .points) / 3) (mesh-fours ts) (t ∷ [])) =
       ap (λ (n : ℕ). marks 64 (points-of n (mesh-fours (take (s .«tet_count» * 4) (s .tets))) (t ∷ []))) (sym (shown-point-count s))
       ∙ ap (λ (l : List ℕ). marks 64 (points-of (length (shown s .points) / 3) (mesh-fours l) (t ∷ []))) (sym (h .tets-are)) in
-      ap (with-number 0) r
-      ∙ ap (λ (l : List ℕ). with-number 0 (remarked s l pm 1)) c
-      ∙ ap (λ (l : List ℕ). with-number 0 (remarked s (marks 256 (t ∷ [])) l 1)) (p ∙ q)
-      ∙ open-tested true e (lt-ltb t (length (mesh-fours ts)) (omega arith))
+      ap (with-number 0) (r one c (p ∙ q)) ∙ open-tested true e (lt-ltb t (length (mesh-fours ts)) (omega arith))

@@ -13,22 +13,23 @@ use Rattle.geometry.specs.declared.tetrahedron.Four.{Four}
 use Rattle.laws.specs.Laws.{worst, once, all-faces}
 use Rattle.laws.specs.Choice.{Choice}
 use Rattle.bench_rules.specs.Bench as B
-use Rattle.bench_rules.specs.Bench.{Cavity, Done, Held, no-mesh, mesh, opened, held, held-with, refused, done, Replaced, Replaced-as, replace-by, put-in, new-tets, cavity-worst, cavity-job, cavity-triangles, top-count}
-use Rattle.bench_rules.specs.Marks.{marks}
-use Rattle.bench_rules.specs.Sound.{bench-of, marked-cavity, Open-mesh}
-use Rattle.bench_rules.proofs.GoodMesh.{Mesh, mesh-of}
-use Rattle.bench_rules.proofs.GoodCavity.{Good-cavity, cavity-of}
+use Rattle.bench_rules.specs.Bench.{Cavity, Done, Held, no-mesh, mesh, opened, held, refused, done, Replaced, Replaced-as, replace-by, put-in, new-tets, cavity-worst, cavity-job, cavity-triangles, most-replacements}
+use Rattle.bench_rules.specs.inner.Marks.{marks}
+use Rattle.bench_rules.specs.inner.Sound.{bench-of, marked-cavity, Open-mesh}
+use Rattle.bench_rules.proofs.Mesh.Good.{held-some}
+use Rattle.bench_rules.proofs.Mesh.Cavity.{cavity-of}
 use Rattle.bench.specs.declared.bench.Bench.{Bench}
 use Rattle.bench.specs.declared.bench.Answer.{Answer}
 use Rattle.refill.specs.declared.refill.Refilled.{Refilled}
-use Rattle.refill.specs.Refill.{refilled-as, Refills}
-use Rattle.bench.specs.Parts.{refilled}
-use Rattle.bench.specs.Store.{shown, answer, laid, laid-tets, Replaces, Fits, open-byte, cavity-tets, cavity-points}
+use Rattle.refill.specs.inner.Refill.{refilled-as, Refills}
+use Rattle.bench.specs.inner.Steps.{Fits, Renewed}
+use Rattle.bench.specs.Store.{shown, answer, stored, stored-tets, Replaces, open-byte, cavity-tets, cavity-points}
 use Rattle.bench.proofs.HeldMesh.{Held-open}
 use Rattle.bench.proofs.Answers.{with-number}
 
-pub refilled-is :
-    (s : Bench) (f : Refilled) {k : ℕ} → k ≡ min (s .count + 1) top-count →
+-- the fields of the struct after what refilling gives
+pub renewed-is :
+    (s : Bench) (f : Refilled) {k : ℕ} → k ≡ min (s .replacements + 1) most-replacements → (b : B.Bench) → Renewed s f b →
     _≡_ {A = Bench}
     (record {
       points = s .points;
@@ -38,17 +39,19 @@ pub refilled-is :
       «in_points» = marks 64 [];
       «point_count» = s .«point_count»;
       «tet_count» = f .«tet_count»;
-      count = k;
+      replacements = k;
       «open» = 0;
     })
-    (refilled s f)
-unfolding refilled
-refilled-is s f e = cc
-
-held-of : (b : B.Bench) (c : Cavity) → Mesh b → b .cavity ≡ some c → Good-cavity b c → held b ≡ opened c
-unfolding held held-with
-held-of b c m e g =
-    ap (λ (t : Bool). held-with t b (b .cavity)) (mesh-of b m) ∙ ap (held-with true b) e ∙ ap (λ (t : Bool). cond t (opened c) no-mesh) (cavity-of b c g)
+    (stored-tets s b)
+unfolding stored-tets stored refilled-as open-byte cavity-tets cavity-points
+renewed-is s f e b w =
+    let tets = ap (λ (r : Refilled). r .tets) (w .refilled) in
+    let qualities = ap (λ (r : Refilled). r .qualities) (w .refilled) in
+    let many = ap (λ (r : Refilled). r .«tet_count») (w .refilled) in
+    let cavity = ap (λ (o : Option Cavity). marks 256 (cavity-tets o)) (sym (w .closed)) in
+    let points = ap (λ (o : Option Cavity). marks 64 (cavity-points o)) (sym (w .closed)) in
+    let shut = ap open-byte (sym (w .closed)) in
+    let counted = e ∙ sym (w .one-more) in cc
 
 module _ (s : Bench) where
   pub replace-none : held (shown s) ≡ no-mesh → Replaces s (with-number 31 s)
@@ -84,33 +87,34 @@ module _ (s : Bench) where
       record {
         cavity-long = f .in-cavity;
         points-long = f .in-points;
-        held-open = subst (λ (b : B.Bench). held b ≡ opened own) (lent-is o) (held-of uncounted own (record { good = m .good; measured = m .measured }) refl (record { some-tet = g .some-tet; few = g .few; points-are = g .points-are; tets-are = g .tets-are }));
+        held-open = subst (λ (b : B.Bench). held b ≡ opened own) (lent-is o) (held-some uncounted own (record { good = m .good; measured = m .measured }) refl
+            (cavity-of uncounted own (record { some-tet = g .some-tet; few = g .few; points-are = g .points-are; tets-are = g .tets-are })));
       }
 
   -- ---- the struct after what refilling gives is the answer
   record Out (f : Refilled) (r : Answer) : Type 0 where
     stays : (f .number ≡ 0 → ⊥) → with-number (f .number) s ≡ r
-    moves : f .number ≡ 0 → with-number 0 (refilled s f) ≡ r
+    moves : f .number ≡ 0 → {t : Bench} → ((b : B.Bench) → Renewed s f b → t ≡ stored-tets s b) → with-number 0 t ≡ r
 
   abbrev answered : Done → Answer
-  answered d = answer (d .number) s (laid-tets s (d .bench))
+  answered d = answer (d .number) s (stored-tets s (d .bench))
 
   abbrev Agree : (uncounted counted : Done) → Type 0
   Agree e d = Out (refilled-as (e .number) (e .bench)) (answered d)
 
   refused-agree : (n : ℕ) → Agree (refused (suc n) uncounted) (refused (suc n) (shown s))
   unfolding refused refilled-as answer
-  refused-agree n = record { stays = λ p. refl; moves = λ e. absurd (omega arith) }
+  refused-agree n = record { stays = λ p. refl; moves = λ e h. absurd (omega arith) }
 
   either : (t : Bool) (e e′ d d′ : Done) → Agree e d → Agree e′ d′ → Agree (cond t e e′) (cond t d d′)
   either true e e′ d d′ p q = p
   either false e e′ d d′ p q = q
 
   put-in-agree : (new : List Four) → Agree (put-in uncounted new) (put-in (shown s) new)
-  unfolding put-in uncounted bench-of done refilled-as answer refilled laid-tets laid open-byte cavity-tets cavity-points shown
+  unfolding put-in uncounted bench-of done refilled-as answer shown
   put-in-agree new =
       either (ltb 256 (length new)) _ _ _ _ (refused-agree 36)
-      (either (once (all-faces (points-in (shown s .points)) new)) _ _ _ _ (record { stays = λ p. absurd (p refl); moves = λ e. refl }) (refused-agree 37))
+      (either (once (all-faces (points-in (shown s .points)) new)) _ _ _ _ (record { stays = λ p. absurd (p refl); moves = λ e h. ap (with-number 0) (h _ (record { refilled = refl; closed = refl; one-more = refl })) }) (refused-agree 37))
 
   replace-agree : (choice : Option (List Four)) → Agree (replace-by uncounted own choice) (replace-by (shown s) own choice)
   unfolding replace-by uncounted bench-of cavity-worst cavity-job cavity-triangles new-tets
@@ -138,5 +142,5 @@ module _ (s : Bench) where
     pub replace-refused : (f .number ≡ 0 → ⊥) → Replaces s (with-number (f .number) s)
     replace-refused p = replaced _ (out .stays p)
 
-    pub replace-done : f .number ≡ 0 → {b : Bench} → b ≡ refilled s f → Replaces s (with-number 0 b)
-    replace-done z {b} e = replaced _ (ap (with-number 0) e ∙ out .moves z)
+    pub replace-done : f .number ≡ 0 → {t : Bench} → ((b : B.Bench) → Renewed s f b → t ≡ stored-tets s b) → Replaces s (with-number 0 t)
+    replace-done z h = replaced _ (out .moves z h)

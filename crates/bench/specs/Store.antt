@@ -8,8 +8,8 @@ use Prim.Native.Nat.{ℕ, zero, suc, _*_, _/_}
 use lib.ListN.{length}
 use lib.IntN.{ℤ, pos}
 use Rattle.bench_rules.specs.Bench as B
-use Rattle.bench_rules.specs.Marks.{marks, entries}
-use Rattle.bench_rules.specs.Sound.{cavity-by}
+use Rattle.bench_rules.specs.inner.Marks.{marks, entries}
+use Rattle.bench_rules.specs.inner.Sound.{cavity-by}
 use Rattle.bench.specs.declared.bench.Bench.{Bench}
 use Rattle.bench.specs.declared.bench.Answer.{Answer}
 
@@ -21,10 +21,10 @@ shown s =
       tets = entries (4 * s .«tet_count») 0 (s .tets);
       qualities = entries (s .«tet_count») 0 (s .qualities);
       cavity = cavity-by (s .«open») (s .«in_cavity») (s .«in_points»);
-      count = s .count;
+      replacements = s .replacements;
     }
 
--- ---- how a bench is laid out
+-- ---- how a bench is stored
 unfoldable pub open-byte : Option B.Cavity → ℕ
 open-byte none = 0
 open-byte (some c) = 1
@@ -38,8 +38,8 @@ cavity-points none = []
 cavity-points (some c) = c .points
 
 -- load: every field anew
-unfoldable pub laid : B.Bench → Bench
-laid b =
+unfoldable pub stored : B.Bench → Bench
+stored b =
     record {
       points = entries 192 (pos 0) (b .points);
       tets = entries 1024 0 (b .tets);
@@ -48,14 +48,14 @@ laid b =
       «in_points» = marks 64 (cavity-points (b .cavity));
       «point_count» = length (b .points) / 3;
       «tet_count» = length (b .tets) / 4;
-      count = b .count;
+      replacements = b .replacements;
       «open» = open-byte (b .cavity);
     }
 
 -- replace: all but the points
-unfoldable pub laid-tets : Bench → B.Bench → Bench
-laid-tets s b =
-    let t = laid b in
+unfoldable pub stored-tets : Bench → B.Bench → Bench
+stored-tets s b =
+    let t = stored b in
     record {
       points = s .points;
       tets = t .tets;
@@ -64,14 +64,14 @@ laid-tets s b =
       «in_points» = t .«in_points»;
       «point_count» = s .«point_count»;
       «tet_count» = t .«tet_count»;
-      count = t .count;
+      replacements = t .replacements;
       «open» = t .«open»;
     }
 
 -- open, grow, close: the cavity alone
-unfoldable pub laid-cavity : Bench → B.Bench → Bench
-laid-cavity s b =
-    let t = laid b in
+unfoldable pub stored-cavity : Bench → B.Bench → Bench
+stored-cavity s b =
+    let t = stored b in
     record {
       points = s .points;
       tets = s .tets;
@@ -80,7 +80,7 @@ laid-cavity s b =
       «in_points» = t .«in_points»;
       «point_count» = s .«point_count»;
       «tet_count» = s .«tet_count»;
-      count = s .count;
+      replacements = s .replacements;
       «open» = t .«open»;
     }
 
@@ -90,30 +90,22 @@ answer zero s t = record { number = 0; bench = t }
 answer (suc n) s t = record { number = suc n; bench = s }
 
 unfoldable pub fresh : Bench
-fresh = laid B.fresh
+fresh = stored B.fresh
 
 unfoldable pub loaded : Bench → (points : List ℤ) → (tets : List ℕ) → Answer
-loaded s cs ts = let d = B.load (shown s) cs ts in answer (d .number) s (laid (d .bench))
+loaded s cs ts = let d = B.load (shown s) cs ts in answer (d .number) s (stored (d .bench))
 
 unfoldable pub opened-at : Bench → (tet : ℕ) → Answer
-opened-at s t = let d = B.open-at (shown s) t in answer (d .number) s (laid-cavity s (d .bench))
+opened-at s t = let d = B.open-at (shown s) t in answer (d .number) s (stored-cavity s (d .bench))
 
 unfoldable pub grown : Bench → Answer
-grown s = let d = B.grow (shown s) in answer (d .number) s (laid-cavity s (d .bench))
+grown s = let d = B.grow (shown s) in answer (d .number) s (stored-cavity s (d .bench))
 
 unfoldable pub closed : Bench → Answer
-closed s = let d = B.close (shown s) in answer (d .number) s (laid-cavity s (d .bench))
+closed s = let d = B.close (shown s) in answer (d .number) s (stored-cavity s (d .bench))
 
 unfoldable pub Replaces : Bench → Answer → Type 0
-Replaces s r = (d : B.Done) × B.Replaced (shown s) d × (r ≡ answer (d .number) s (laid-tets s (d .bench)))
-
--- ---- what the arrays of the struct have by their types
-pub record Fits (s : Bench) : Type 0 where
-  pub points : length (s .points) ≡ 192
-  pub tets : length (s .tets) ≡ 1024
-  pub qualities : length (s .qualities) ≡ 256
-  pub in-cavity : length (s .«in_cavity») ≡ 256
-  pub in-points : length (s .«in_points») ≡ 64
+Replaces s r = (d : B.Done) × B.Replaced (shown s) d × (r ≡ answer (d .number) s (stored-tets s (d .bench)))
 
 -- ---- what the struct shows afterwards is the bench afterwards. Proved in proofs/Shown.
 unfoldable pub Shown-right : Type 0

@@ -1,11 +1,11 @@
 // The bench's value. Assumes nothing.
-use growth::around::TetMarks;
+use growth::neighbours::TetMarks;
 use growth::span::PointMarks;
 ghost use mathlib.Core.Path.{_≡_};
-ghost use mathlib.Core.List.{[]};
-ghost use Rattle.bench_rules.specs.Marks.{marks};
-ghost use Rattle.bench.specs.Store.{fresh};
-ghost use Rattle.bench.specs.Parts.{remarked};
+ghost use mathlib.Core.Option.{none};
+ghost use Rattle.bench_rules.specs.Bench.{with-cavity};
+ghost use Rattle.bench.specs.Store.{shown, fresh, stored-cavity};
+ghost use Rattle.bench.specs.inner.Steps.{Has-cavity};
 
 // Counts say how many entries of an array are the mesh's. A mark other than 0 is set; so is `open`.
 #[repr(C)]
@@ -17,7 +17,7 @@ pub struct Bench {
     pub in_points: [u8; 64],
     pub point_count: u32,
     pub tet_count: u32,
-    pub count: u32,
+    pub replacements: u32,
     pub open: u8,
 }
 
@@ -39,14 +39,14 @@ pub fn new() -> Bench
         in_points: [0; 64],
         point_count: 0,
         tet_count: 0,
-        count: 0,
+        replacements: 0,
         open: 0,
     }
 }
 
 // The bench with these marks and an open cavity.
 pub(crate) fn with_cavity(b: Bench, c: TetMarks, p: PointMarks) -> Bench
-    ensures { λ r. ⌜ r ≡ remarked b (c .mark) (p .mark) 1 ⌝ }
+    ensures { λ r. ⌜ Has-cavity b (c .mark) (p .mark) r ⌝ }
 {
     let points = b.points;
     let tets = b.tets;
@@ -61,14 +61,14 @@ pub(crate) fn with_cavity(b: Bench, c: TetMarks, p: PointMarks) -> Bench
         in_points,
         point_count: b.point_count,
         tet_count: b.tet_count,
-        count: b.count,
+        replacements: b.replacements,
         open: 1,
     }
 }
 
 // The bench with no mark.
 pub(crate) fn without_cavity(b: Bench) -> Bench
-    ensures { λ r. ⌜ r ≡ remarked b (marks 256 []) (marks 64 []) 0 ⌝ }
+    ensures { λ r. ⌜ r ≡ stored-cavity b (with-cavity (shown b) none) ⌝ }
 {
     let points = b.points;
     let tets = b.tets;
@@ -81,7 +81,7 @@ pub(crate) fn without_cavity(b: Bench) -> Bench
         in_points: [0; 64],
         point_count: b.point_count,
         tet_count: b.tet_count,
-        count: b.count,
+        replacements: b.replacements,
         open: 0,
     }
 }

@@ -3,46 +3,32 @@ use crate::bench::Answer;
 use crate::bench::Bench;
 use crate::bench::with_cavity;
 use crate::held::state;
-use growth::around::TetMarks;
-use growth::around::any_marked;
-use growth::around::around_of;
 use growth::joining::joining;
+use growth::neighbours::TetMarks;
+use growth::neighbours::any_marked;
+use growth::neighbours::neighbours_of;
 use growth::span::spanned;
 use growth::span::with_point;
+use mesh::marks::count_marked;
 ghost use mathlib.Core.Path.{_≡_};
-ghost use lib.ListN.{length};
 ghost use Rattle.bench_rules.specs.Bench.{held};
-ghost use Rattle.bench_rules.specs.Marks.{marked};
-ghost use Rattle.mesh.specs.State.{state-of};
+ghost use Rattle.mesh.specs.inner.State.{state-of};
 ghost use Rattle.bench.specs.Store.{shown, grown};
-ghost use Rattle.bench.specs.Parts.{Has-around};
+ghost use Rattle.bench.specs.inner.Steps.{Has-neighbours};
 
-// How many marks are set.
-fn count_marked(list: &[u8]) -> usize
-    ensures { λ r. ⌜ r ≡ length (marked 0 (now (list .entry))) ⌝ }
-{
-    let mut k: usize = 0;
-    for i in 0..list.len() {
-        if list[i] != 0 {
-            k += 1;
-        }
-    }
-    k
-}
-
-// The cavity with one corner more, where some tetrahedron is around it.
+// The cavity with one corner more, where it has a neighbour.
 fn grow_by(b: Bench, near: TetMarks) -> Answer
-    requires { ⌜ Has-around b (near .mark) ⌝ }
+    requires { ⌜ Has-neighbours b (near .mark) ⌝ }
     ensures { λ r. ⌜ r ≡ grown b ⌝ }
 {
     let tets = b.tets;
     let qualities = b.qualities;
     let in_points = b.in_points;
-    let around = near.mark;
+    let neighbours = near.mark;
     let n = b.point_count as usize;
     let m = b.tet_count as usize;
     let t = b.tet_count as usize * 4;
-    let p = joining(&tets[..t], &qualities[..m], &around, &in_points, n);
+    let p = joining(&tets[..t], &qualities[..m], &neighbours, &in_points, n);
     let points = with_point(&in_points, n, p);
     let wider = points.mark;
     let inside = spanned(&tets[..t], &wider);
@@ -64,9 +50,9 @@ fn grow_cavity(b: Bench) -> Answer
             bench: b,
         };
     }
-    let near = around_of(&tets[..t], &in_cavity);
-    let around = near.mark;
-    if !any_marked(&around) {
+    let near = neighbours_of(&tets[..t], &in_cavity);
+    let neighbours = near.mark;
+    if !any_marked(&neighbours) {
         return Answer {
             number: 35,
             bench: b,

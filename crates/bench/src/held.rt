@@ -3,11 +3,11 @@ use crate::bench::Bench;
 use mesh::state::state_of;
 ghost use mathlib.Core.Path.{_≡_};
 ghost use Rattle.bench_rules.specs.Bench.{held};
-ghost use Rattle.mesh.specs.State.{state-of};
+ghost use Rattle.mesh.specs.inner.State.{state-of};
 ghost use Rattle.bench.specs.Store.{shown};
 
 // 0 for no mesh, 1 for a mesh, 2 for a mesh and a cavity. A count above what the arrays hold is no mesh's.
-pub fn state(b: Bench) -> u32
+pub(crate) fn state(b: Bench) -> u32
     ensures { λ r. ⌜ r ≡ state-of (held (shown b)) ⌝ }
 {
     if 64 < b.point_count {

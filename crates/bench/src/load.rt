@@ -1,18 +1,16 @@
-// Load (document 01): a mesh of one's own, the count kept. Assumes nothing.
+// Load (document 01): a mesh of one's own, the number of replacements kept. Assumes nothing.
 use crate::bench::Answer;
 use crate::bench::Bench;
 use crate::held::state;
 use mesh::qualities::qualities_of;
 use mesh::refusal::mesh_refusal;
 ghost use mathlib.Core.Path.{_≡_};
-ghost use mathlib.Core.Option.{none};
 ghost use Prim.Native.Nat.{_≤_};
 ghost use lib.ListN.{length};
 ghost use lib.IntN.{pos};
-ghost use Rattle.bench_rules.specs.Bench.{mesh-refusal, mesh-qualities};
-ghost use Rattle.bench_rules.specs.Marks.{entries};
-ghost use Rattle.bench_rules.specs.Sound.{bench-of};
-ghost use Rattle.bench.specs.Store.{laid, loaded};
+ghost use Rattle.bench_rules.specs.Bench.{mesh-refusal, mesh-alone};
+ghost use Rattle.bench_rules.specs.inner.Marks.{entries};
+ghost use Rattle.bench.specs.Store.{stored, loaded};
 
 struct Coordinates {
     coordinate: [i32; 192],
@@ -48,9 +46,9 @@ fn corners_in(list: &[u8]) -> Corners
     c
 }
 
-fn laid_mesh(points: &[i32], tets: &[u8], count: u32) -> Bench
+fn stored_mesh(points: &[i32], tets: &[u8], replacements: u32) -> Bench
     requires { ⌜ mesh-refusal (now points) (now tets) ≡ 0 ⌝ }
-    ensures { λ r. ⌜ r ≡ laid (bench-of (now (points .entry)) (now (tets .entry)) (mesh-qualities (now (points .entry)) (now (tets .entry))) none count) ⌝ }
+    ensures { λ r. ⌜ r ≡ stored (mesh-alone (now (points .entry)) (now (tets .entry)) replacements) ⌝ }
 {
     let p = coordinates_in(points);
     let t = corners_in(tets);
@@ -66,7 +64,7 @@ fn laid_mesh(points: &[i32], tets: &[u8], count: u32) -> Bench
         in_points: [0; 64],
         point_count: (points.len() / 3) as u32,
         tet_count: (tets.len() / 4) as u32,
-        count,
+        replacements,
         open: 0,
     }
 }
@@ -87,6 +85,6 @@ pub fn load(b: Bench, points: &[i32], tets: &[u8]) -> Answer
     }
     Answer {
         number: 0,
-        bench: laid_mesh(points, tets, b.count),
+        bench: stored_mesh(points, tets, b.replacements),
     }
 }

@@ -3,14 +3,14 @@ use crate::bench::Answer;
 use crate::bench::Bench;
 use crate::bench::with_cavity;
 use crate::held::state;
-use growth::around::TetMarks;
+use growth::neighbours::TetMarks;
 use growth::span::corners_of;
 ghost use mathlib.Core.Path.{_≡_};
 ghost use mathlib.Core.List.{[], _∷_};
 ghost use Prim.Native.Nat.{_<_};
 ghost use Rattle.bench_rules.specs.Bench.{held};
-ghost use Rattle.bench_rules.specs.Marks.{marks};
-ghost use Rattle.mesh.specs.State.{state-of};
+ghost use Rattle.bench_rules.specs.inner.Marks.{marks};
+ghost use Rattle.mesh.specs.inner.State.{state-of};
 ghost use Rattle.bench.specs.Store.{shown, opened-at};
 
 // One mark of 256.

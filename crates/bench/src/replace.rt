@@ -6,24 +6,25 @@ use refill::refill::Refilled;
 use refill::refill::refill;
 ghost use mathlib.Core.Path.{_≡_};
 ghost use Prim.Native.Nat.{_+_, min};
-ghost use Rattle.bench_rules.specs.Bench.{held, top-count};
-ghost use Rattle.mesh.specs.State.{state-of};
-ghost use Rattle.bench.specs.Store.{shown, Replaces};
-ghost use Rattle.bench.specs.Parts.{refilled};
+ghost use Rattle.bench_rules.specs.Bench as B;
+ghost use Rattle.bench_rules.specs.Bench.{held, most-replacements};
+ghost use Rattle.mesh.specs.inner.State.{state-of};
+ghost use Rattle.bench.specs.Store.{shown, stored-tets, Replaces};
+ghost use Rattle.bench.specs.inner.Steps.{Renewed};
 
 // One more, stopping at the top.
-fn next_count(count: u32) -> u32
-    ensures { λ r. ⌜ r ≡ min (count + 1) top-count ⌝ }
+fn one_more(replacements: u32) -> u32
+    ensures { λ r. ⌜ r ≡ min (replacements + 1) most-replacements ⌝ }
 {
-    if count == 4_294_967_295 {
-        return count;
+    if replacements == 4_294_967_295 {
+        return replacements;
     }
-    count + 1
+    replacements + 1
 }
 
-// The new mesh in the old one's place, no cavity, and one more in the count.
+// The new mesh in the old one's place, no cavity, and one more replacement.
 fn with_tets(b: Bench, f: Refilled) -> Bench
-    ensures { λ r. ⌜ r ≡ refilled b f ⌝ }
+    ensures { λ r. ⌜ ((new : B.Bench) → Renewed b f new → r ≡ stored-tets b new) ⌝ }
 {
     let points = b.points;
     let tets = f.tets;
@@ -36,7 +37,7 @@ fn with_tets(b: Bench, f: Refilled) -> Bench
         in_points: [0; 64],
         point_count: b.point_count,
         tet_count: f.tet_count,
-        count: next_count(b.count),
+        replacements: one_more(b.replacements),
         open: 0,
     }
 }

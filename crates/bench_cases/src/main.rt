@@ -6,16 +6,13 @@
 //   V;OPEN;CAVITY;POINTS      it is as before the operation but for its cavity;  M;POINTS;TETS  it has this mesh
 // A VALUE is POINTS;TETS;QUALITIES;OPEN;CAVITY;POINTS OF IT;COUNT; lists are parted by commas, a cavity is given by numbers.
 // Any other line is counted as unread and as different. Assumes nothing; any bytes may come.
-mod compare;
 mod session;
-mod tally;
-mod value;
 
 ghost use mathlib.Core.Path.{_≡_};
 ghost use lib.ListN.{length};
 use libc::STDIN_FILENO;
 use lines::tally::print;
-use session::session_of;
+use session::tally_of;
 
 // The most bytes of input, and one more.
 const ROOM: usize = 524288;
@@ -34,7 +31,6 @@ fn main() {
         print(b"too many lines\n");
         return;
     }
-    let s = session_of(&input[..n]);
-    let t = s.tally;
+    let t = tally_of(&input[..n]);
     t.print();
 }

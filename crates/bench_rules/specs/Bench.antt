@@ -15,25 +15,26 @@ use Rattle.geometry.specs.declared.tetrahedron.Four.{Four}
 use Rattle.laws.specs.Laws.{Job, Tri, all-faces, has, once, reversed, corner-of, worst, bytes, fours-in}
 use Rattle.laws.specs.Lists.{job-lists}
 use Rattle.laws.specs.Choice.{Choice}
-use Rattle.laws.specs.Check.{two-alike, job}
+use Rattle.laws.specs.Check.{two-alike, job, points-right}
 use Rattle.laws.specs.Fours.{from, all-fours}
 
 -- ---- what it holds
--- C, numbers of tetrahedra, and P, numbers of points; both ascending
+-- the cavity to be retriangulated: C, numbers of tetrahedra, and P, numbers of points; both ascending
 pub record Cavity : Type 0 where
   pub tets : List ℕ
   pub points : List ℕ
 
--- three coordinates for each point; four corners, as given, and a quality in millionths for each tetrahedron
+-- The bench: a tetrahedral mesh whose cavities are reconnected one at a time, with the cavity that is open.
+-- Three coordinates for each point; four corners, as given, and a quality in millionths for each tetrahedron.
 pub record Bench : Type 0 where
   pub points : List ℤ
   pub tets : List ℕ
   pub qualities : List ℕ
   pub cavity : Option Cavity
-  pub count : ℕ
+  pub replacements : ℕ
 
 abbrev pub fresh : Bench
-fresh = record { points = []; tets = []; qualities = []; cavity = none; count = 0 }
+fresh = record { points = []; tets = []; qualities = []; cavity = none; replacements = 0 }
 
 -- the number an operation gives, 0 for none, and the bench afterwards
 pub record Done : Type 0 where
@@ -62,15 +63,17 @@ unfoldable pub any-tet-bad : List V3 → List Four → Bool
 any-tet-bad ps [] = false
 any-tet-bad ps (f ∷ fs) = tet-bad ps f || any-tet-bad ps fs
 
+-- whole tetrahedra, from 1 to as many as the limit
+abbrev pub tets-right : (limit : ℕ) → (tets : List ℕ) → Bool
+tets-right l ts = eqb (length ts % 4) 0 && (leb 1 (length ts / 4) && leb (length ts / 4) l)
+
 unfoldable pub mesh-refusal : (points : List ℤ) → (tets : List ℕ) → ℕ
 mesh-refusal cs ts =
     let ps = points-in cs in
-    let n = length ps in
-    let m = length ts / 4 in
-    cond (not (eqb (length cs % 3) 0 && (leb 4 n && leb n 64))) 2
+    cond (not (points-right 64 cs)) 2
     (cond (any-far cs) 3
     (cond (two-alike ps) 4
-    (cond (not (eqb (length ts % 4) 0 && (leb 1 m && leb m 256))) 17
+    (cond (not (tets-right 256 ts)) 17
     (cond (any-tet-bad ps (mesh-fours ts)) 18 (cond (once (all-faces ps (mesh-fours ts))) 0 19)))))
 
 unfoldable pub mesh-qualities : (points : List ℤ) → (tets : List ℕ) → List ℕ
@@ -120,25 +123,26 @@ unfoldable pub mesh-good : Bench → Bool
 mesh-good b =
     eqb (mesh-refusal (b .points) (b .tets)) 0 && same-numbers (b .qualities) (mesh-qualities (b .points) (b .tets))
 
--- not empty, at most 16 points, P the points of C, C all tetrahedra with four corners in P
-unfoldable pub cavity-good : Bench → Cavity → Bool
-cavity-good b c =
-    let fs = mesh-fours (b .tets) in
-    (ltb 0 (length (c .tets)) && leb (length (c .points)) 16)
-    && (same-numbers (c .points) (points-of (length (b .points) / 3) fs (c .tets)) && same-numbers (c .tets) (tets-in (c .points) fs))
+-- of a mesh of n points: not empty, at most 16 points, P the points of C, C all tetrahedra with four corners in P
+unfoldable pub cavity-good : (n : ℕ) → List Four → (tets points : List ℕ) → Bool
+cavity-good n fs is ps =
+    (ltb 0 (length is) && leb (length ps) 16) && (same-numbers ps (points-of n fs is) && same-numbers is (tets-in ps fs))
 
 unfoldable pub held-with : (mesh-good : Bool) → Bench → Option Cavity → Held
 held-with false b c = no-mesh
 held-with true b none = mesh
-held-with true b (some c) = cond (cavity-good b c) (opened c) no-mesh
+held-with true b (some c) = cond (cavity-good (length (b .points) / 3) (mesh-fours (b .tets)) (c .tets) (c .points)) (opened c) no-mesh
 
 unfoldable pub held : Bench → Held
 held b = held-with (mesh-good b) b (b .cavity)
 
--- ---- LOAD: 32, then the mesh's numbers; the count stays
+-- a mesh and no cavity
+abbrev pub mesh-alone : (points : List ℤ) → (tets : List ℕ) → (replacements : ℕ) → Bench
+mesh-alone cs ts k = record { points = cs; tets = ts; qualities = mesh-qualities cs ts; cavity = none; replacements = k }
+
+-- ---- LOAD: 32, then the mesh's numbers; the number of replacements stays
 unfoldable pub load-mesh : (refusal : ℕ) → Bench → (points : List ℤ) → (tets : List ℕ) → Done
-load-mesh zero b cs ts =
-    done (record { points = cs; tets = ts; qualities = mesh-qualities cs ts; cavity = none; count = b .count })
+load-mesh zero b cs ts = done (mesh-alone cs ts (b .replacements))
 load-mesh (suc n) b cs ts = refused (suc n) b
 
 unfoldable pub load-as : Held → Bench → (points : List ℤ) → (tets : List ℕ) → Done
@@ -149,23 +153,23 @@ load-as (opened c) b cs ts = refused 32 b
 unfoldable pub load : Bench → (points : List ℤ) → (tets : List ℕ) → Done
 load b cs ts = load-as (held b) b cs ts
 
--- the same mesh and count with another cavity
+-- the same mesh and number of replacements with another cavity
 unfoldable pub with-cavity : Bench → Option Cavity → Bench
-with-cavity b c = record { points = b .points; tets = b .tets; qualities = b .qualities; cavity = c; count = b .count }
+with-cavity b c = record { points = b .points; tets = b .tets; qualities = b .qualities; cavity = c; replacements = b .replacements }
 
 -- the cavity that P spans
 unfoldable pub spanned : Bench → (points : List ℕ) → Cavity
 spanned b ps = record { tets = tets-in ps (mesh-fours (b .tets)); points = ps }
 
+-- the cavity of one tetrahedron
+abbrev pub one-tet : Bench → (tet : ℕ) → Cavity
+one-tet b t = record { tets = t ∷ []; points = points-of (length (b .points) / 3) (mesh-fours (b .tets)) (t ∷ []) }
+
 -- ---- OPEN: 31, 32, 20. Only the one tetrahedron has its four corners, by 19.
 unfoldable pub open-as : Held → Bench → (tet : ℕ) → Done
 open-as no-mesh b t = refused 31 b
 open-as (opened c) b t = refused 32 b
-open-as mesh b t =
-    let fs = mesh-fours (b .tets) in
-    cond (ltb t (length fs))
-    (done (with-cavity b (some (record { tets = t ∷ []; points = points-of (length (b .points) / 3) fs (t ∷ []) }))))
-    (refused 20 b)
+open-as mesh b t = cond (ltb t (length (mesh-fours (b .tets)))) (done (with-cavity b (some (one-tet b t)))) (refused 20 b)
 
 unfoldable pub open-at : Bench → (tet : ℕ) → Done
 open-at b t = open-as (held b) b t
@@ -176,47 +180,51 @@ unfoldable pub common : Four → Four → ℕ
 common f g =
     (cond (corner-of (f .a) g) 1 0 + cond (corner-of (f .b) g) 1 0) + (cond (corner-of (f .c) g) 1 0 + cond (corner-of (f .d) g) 1 0)
 
-unfoldable pub touches : List Four → Four → (tets : List ℕ) → Bool
-touches fs f [] = false
-touches fs f (i ∷ is) = leb 3 (common f (nth fs i)) || touches fs f is
+unfoldable pub shares-face : List Four → Four → (tets : List ℕ) → Bool
+shares-face fs f [] = false
+shares-face fs f (i ∷ is) = leb 3 (common f (nth fs i)) || shares-face fs f is
 
--- A: the tetrahedra outside C that share a face with one in C
-unfoldable pub around : List Four → (tets : List ℕ) → List ℕ
-around fs is = pick (λ i. not (member i is) && touches fs (nth fs i) is) (from (length fs) 0)
+-- A, the face-adjacent tetrahedra: those outside C that share a face with one in C
+unfoldable pub neighbours : List Four → (tets : List ℕ) → List ℕ
+neighbours fs is = pick (λ i. not (member i is) && shares-face fs (nth fs i) is) (from (length fs) 0)
 
 -- the tetrahedra of A that meet p: p is outside P, and a corner
-unfoldable pub met : Bench → Cavity → (around : List ℕ) → (p : ℕ) → List ℕ
-met b c near p =
-    pick (λ i. not (member p (c .points)) && corner-of p (nth (mesh-fours (b .tets)) i)) near
+unfoldable pub met : List Four → (points neighbours : List ℕ) → (p : ℕ) → List ℕ
+met fs ps near p = pick (λ i. not (member p ps) && corner-of p (nth fs i)) near
 
 unfoldable pub sum-of : (qualities : List ℕ) → (tets : List ℕ) → ℕ
 sum-of qs [] = 0
 sum-of qs (i ∷ is) = getD qs i 0 + sum-of qs is
 
--- met by more; by as many, with a lower sum
-unfoldable pub beats : Bench → Cavity → (around : List ℕ) → (q p : ℕ) → Bool
-beats b c near q p =
-    let mq = met b c near q in
-    let mp = met b c near p in
-    ltb (length mp) (length mq)
-    || (eqb (length mp) (length mq) && ltb (sum-of (b .qualities) mq) (sum-of (b .qualities) mp))
+-- met by n with the sum s rather than by m with the sum t: by more; by as many, with a lower sum
+unfoldable pub preferred : (n s : ℕ) → (m t : ℕ) → Bool
+preferred n s m t = ltb m n || (eqb m n && ltb s t)
+
+unfoldable pub beats : List Four → (qualities points neighbours : List ℕ) → (q p : ℕ) → Bool
+beats fs qs ps near q p =
+    let mq = met fs ps near q in
+    let mp = met fs ps near p in preferred (length mq) (sum-of qs mq) (length mp) (sum-of qs mp)
 
 -- the first that none of the others beats
-unfoldable pub joins : Bench → Cavity → (around : List ℕ) → (best : ℕ) → (others : List ℕ) → ℕ
-joins b c near p [] = p
-joins b c near p (q ∷ qs) = joins b c near (cond (beats b c near q p) q p) qs
+unfoldable pub joins : List Four → (qualities points neighbours : List ℕ) → (best : ℕ) → (others : List ℕ) → ℕ
+joins fs qs ps near p [] = p
+joins fs qs ps near p (q ∷ others) = joins fs qs ps near (cond (beats fs qs ps near q p) q p) others
 
-unfoldable pub grow-by : Bench → Cavity → (around : List ℕ) → Done
-grow-by b c [] = refused 35 b
-grow-by b c (a ∷ near) =
+-- the cavity that P and the corner that joins span
+abbrev pub wider : Bench → Cavity → (neighbours : List ℕ) → Cavity
+wider b c near =
     let n = length (b .points) / 3 in
-    let p = joins b c (a ∷ near) 0 (from n 0) in
-    done (with-cavity b (some (spanned b (pick (λ q. member q (c .points) || eqb q p) (from n 0)))))
+    let p = joins (mesh-fours (b .tets)) (b .qualities) (c .points) near 0 (from n 0) in
+    spanned b (pick (λ q. member q (c .points) || eqb q p) (from n 0))
+
+unfoldable pub grow-by : Bench → Cavity → (neighbours : List ℕ) → Done
+grow-by b c [] = refused 35 b
+grow-by b c (a ∷ near) = done (with-cavity b (some (wider b c (a ∷ near))))
 
 unfoldable pub grow-as : Held → Bench → Done
 grow-as no-mesh b = refused 31 b
 grow-as mesh b = refused 33 b
-grow-as (opened c) b = cond (leb 16 (length (c .points))) (refused 34 b) (grow-by b c (around (mesh-fours (b .tets)) (c .tets)))
+grow-as (opened c) b = cond (leb 16 (length (c .points))) (refused 34 b) (grow-by b c (neighbours (mesh-fours (b .tets)) (c .tets)))
 
 unfoldable pub grow : Bench → Done
 grow b = grow-as (held b) b
@@ -230,14 +238,15 @@ close-as (opened c) b = done (with-cavity b none)
 unfoldable pub close : Bench → Done
 close b = close-as (held b) b
 
--- ---- REPLACE: 31, 33, 36, 37, 38
-unfoldable pub parts : List Four → (tets : List ℕ) → List Four
-parts fs is = map (nth fs) is
+-- ---- REPLACE (local reconnection, taken only where the worst quality rises): 31, 33, 36, 37, 38
+-- the tetrahedra with these numbers
+unfoldable pub tets-at : List Four → (tets : List ℕ) → List Four
+tets-at fs is = map (nth fs) is
 
 -- faces of C whose reverse is no face of C
-unfoldable pub unmatched-in : (rest all : List Tri) → List Tri
-unmatched-in [] all = []
-unmatched-in (t ∷ ts) all = cond (has (reversed t) all) [] (t ∷ []) ++ unmatched-in ts all
+unfoldable pub boundary-faces-of : (rest all : List Tri) → List Tri
+boundary-faces-of [] all = []
+boundary-faces-of (t ∷ ts) all = cond (has (reversed t) all) [] (t ∷ []) ++ boundary-faces-of ts all
 
 -- the place of a point in P
 unfoldable pub place-in : (points : List ℕ) → (p : ℕ) → ℕ
@@ -252,10 +261,10 @@ unfoldable pub coordinates : (points : List ℤ) → (numbers : List ℕ) → Li
 coordinates cs [] = []
 coordinates cs (p ∷ ps) = take 3 (drop (3 * p) cs) ++ coordinates cs ps
 
--- the cavity as a job: P ascending, the unmatched faces of C, no kept edges, every four measured
+-- the cavity as a job: P ascending, the boundary faces of C, no kept edges, every four measured
 unfoldable pub cavity-triangles : Bench → Cavity → List Tri
 cavity-triangles b c =
-    let all = all-faces (points-in (b .points)) (parts (mesh-fours (b .tets)) (c .tets)) in unmatched-in all all
+    let all = all-faces (points-in (b .points)) (tets-at (mesh-fours (b .tets)) (c .tets)) in boundary-faces-of all all
 
 unfoldable pub cavity-table : (points : List ℤ) → List ℤ
 cavity-table cs = map (four-entry (points-in cs)) (all-fours (length (points-in cs)))
@@ -274,24 +283,27 @@ unfoldable pub cavity-worst : Bench → Cavity → ℕ
 cavity-worst b c = least-of 1000000 (b .qualities) (c .tets)
 
 -- a filling's fours with the mesh's point numbers
-unfoldable pub back : (points : List ℕ) → Four → Four
-back ps f = four (getD ps (f .a) 0) (getD ps (f .b) 0) (getD ps (f .c) 0) (getD ps (f .d) 0)
+unfoldable pub mesh-numbers : (points : List ℕ) → Four → Four
+mesh-numbers ps f = four (getD ps (f .a) 0) (getD ps (f .b) 0) (getD ps (f .c) 0) (getD ps (f .d) 0)
+
+-- the numbers of the tetrahedra outside C, of m
+abbrev pub outside : (m : ℕ) → (tets : List ℕ) → List ℕ
+outside m is = pick (λ i. not (member i is)) (from m 0)
 
 -- the rest of the list in its order, then the new fours
 unfoldable pub new-tets : Bench → Cavity → (filling : List Four) → List Four
 new-tets b c fs =
-    let old = mesh-fours (b .tets) in
-    parts old (pick (λ i. not (member i (c .tets))) (from (length old) 0)) ++ map (back (c .points)) fs
+    let old = mesh-fours (b .tets) in tets-at old (outside (length old) (c .tets)) ++ map (mesh-numbers (c .points)) fs
 
-abbrev pub top-count : ℕ
-top-count = 4294967295
+abbrev pub most-replacements : ℕ
+most-replacements = 4294967295
 
 unfoldable pub put-in : Bench → (new : List Four) → Done
 put-in b new =
     let ps = points-in (b .points) in
     cond (ltb 256 (length new)) (refused 37 b)
     (cond (once (all-faces ps new))
-    (done (record { points = b .points; tets = bytes new; qualities = map (four-quality ps) new; cavity = none; count = min (b .count + 1) top-count }))
+    (done (record { points = b .points; tets = bytes new; qualities = map (four-quality ps) new; cavity = none; replacements = min (b .replacements + 1) most-replacements }))
     (refused 38 b))
 
 -- what replace gives where `choice` is the cavity's best filling, or none where it has no lawful one

@@ -6,9 +6,9 @@ use Prim.Native.Nat.{ℕ, _+_, _<_}
 use lib.ListN.{set, replicate}
 use Rattle.laws.specs.Fours.{from}
 use Rattle.bench_rules.specs.Bench.{pick}
-use Rattle.bench_rules.specs.Marks.{marks}
-use Rattle.bench_rules.proofs.PickedInTurn.{pick-taken, pick-passed}
-use Rattle.bench_rules.proofs.MarksRead.{marks-none, marks-set}
+use Rattle.bench_rules.specs.inner.Marks.{marks}
+use Rattle.bench_rules.proofs.Numbers.InTurn.{pick-taken, pick-passed}
+use Rattle.bench_rules.proofs.Marks.Read.{marks-none, marks-set}
 
 -- of n marks, those below i that pass a test are set
 pub record Marks-to (n : ℕ) (t : ℕ → Bool) (i : ℕ) (ms : List ℕ) : Type 0 where

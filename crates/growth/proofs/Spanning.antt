@@ -1,4 +1,4 @@
--- The tests of the loops that mark: the points with one more among them, the corners of a tetrahedron, the tetrahedra that points span, and those around a cavity. Assumes nothing.
+-- The tests of the loops that mark: the points with one more among them, the corners of a tetrahedron, the tetrahedra that points span, and a cavity's neighbours. Assumes nothing.
 use mathlib.Core.Path.{_≡_, sym, ap, _∙_}
 use mathlib.Core.Bool.{Bool, _&&_, _||_, not, or-false}
 use mathlib.Core.List.{List, [], _∷_}
@@ -8,9 +8,9 @@ use lib.ListN.{length}
 use Rattle.geometry.specs.declared.tetrahedron.Four.{Four}
 use Rattle.laws.specs.Laws.{corner-of}
 use Rattle.laws.specs.inner.ListedFours.{four-at}
-use Rattle.bench_rules.specs.Bench.{mesh-fours, member, nth, corner-of-any, corners-in, touches, around, tets-in}
-use Rattle.bench_rules.specs.Marks.{marked, marks}
-use Rattle.bench_rules.proofs.MeshFours.{mesh-fours-length, mesh-nth}
+use Rattle.bench_rules.specs.Bench.{mesh-fours, member, nth, corner-of-any, corners-in, shares-face, neighbours, tets-in}
+use Rattle.bench_rules.specs.inner.Marks.{marked, marks}
+use Rattle.bench_rules.proofs.Mesh.Fours.{mesh-fours-length, mesh-nth}
 use Rattle.growth.proofs.Marking.{Marks-to, marks-to-all}
 
 -- ---- the points with p among them
@@ -37,9 +37,9 @@ unfolding tets-in
 spanned-all pm ts ms i e h = marks-to-all (length (mesh-fours ts)) (e ∙ sym (mesh-fours-length ts)) h
 
 -- ---- A
-abbrev pub is-around : (tets in-cavity : List ℕ) → (i : ℕ) → Bool
-is-around ts cm i = not (member i (marked 0 cm)) && touches (mesh-fours ts) (nth (mesh-fours ts) i) (marked 0 cm)
+abbrev pub is-neighbour : (tets in-cavity : List ℕ) → (i : ℕ) → Bool
+is-neighbour ts cm i = not (member i (marked 0 cm)) && shares-face (mesh-fours ts) (nth (mesh-fours ts) i) (marked 0 cm)
 
-pub around-all : (ts cm ms : List ℕ) (i : ℕ) → i ≡ length ts / 4 → Marks-to 256 (is-around ts cm) i ms → ms ≡ marks 256 (around (mesh-fours ts) (marked 0 cm))
-unfolding around
-around-all ts cm ms i e h = marks-to-all (length (mesh-fours ts)) (e ∙ sym (mesh-fours-length ts)) h
+pub neighbours-all : (ts cm ms : List ℕ) (i : ℕ) → i ≡ length ts / 4 → Marks-to 256 (is-neighbour ts cm) i ms → ms ≡ marks 256 (neighbours (mesh-fours ts) (marked 0 cm))
+unfolding neighbours
+neighbours-all ts cm ms i e h = marks-to-all (length (mesh-fours ts)) (e ∙ sym (mesh-fours-length ts)) h

@@ -1,4 +1,4 @@
-// Growing a cavity (document 01, Grow): the tetrahedra around it, the corner that joins, and what joins with it. Assumes nothing.
-pub mod around;
+// Growing a cavity (document 01, Grow): its neighbours, the corner that joins, and what joins with it. Assumes nothing.
 pub mod joining;
+pub mod neighbours;
 pub mod span;

@@ -11,14 +11,14 @@ use lib.ListN.{length}
 use Rattle.geometry.specs.declared.tetrahedron.Four.{Four}
 use Rattle.laws.specs.Fours.{from}
 use Rattle.laws.proofs.Basics.Passes.{Test}
-use Rattle.bench_rules.specs.Bench.{mesh-fours, member, same-numbers, nth, corner-of-any, corners-in, points-of, tets-in}
-use Rattle.bench_rules.specs.Marks.{marked}
-use Rattle.bench_rules.specs.Sound.{Marks-within}
-use Rattle.bench_rules.proofs.Picked.{same-numbers-true}
-use Rattle.bench_rules.proofs.PickedNumbers.{Among, picked-so, from-within}
-use Rattle.bench_rules.proofs.MeshFours.{mesh-fours-length}
-use Rattle.bench_rules.proofs.Marked.{marks-within}
-use Rattle.mesh.specs.State.{cavity-right, alike}
+use Rattle.bench_rules.specs.Bench.{cavity-good, mesh-fours, member, same-numbers, nth, corner-of-any, corners-in, points-of, tets-in}
+use Rattle.bench_rules.specs.inner.Marks.{marked}
+use Rattle.bench_rules.specs.inner.Sound.{Marks-within}
+use Rattle.bench_rules.proofs.Numbers.Same.{same-numbers-true}
+use Rattle.bench_rules.proofs.Numbers.Picked.{Among, picked-so, from-within}
+use Rattle.bench_rules.proofs.Mesh.Fours.{mesh-fours-length}
+use Rattle.bench_rules.proofs.Marks.Marked.{marks-within}
+use Rattle.mesh.specs.inner.State.{alike}
 use Rattle.mesh.proofs.MarksCompared.{all-alike, alike-start, alike-test, alike-end, marks-compared}
 
 -- ---- C compared
@@ -39,6 +39,9 @@ module _ (ts cm pm : List ℕ) where
   pub tets-test : (i : ℕ) → i < length cm → Test (tets-left i) (alike (member i (marked 0 cm)) (spanned i)) (tets-left (i + 1))
   unfolding tets-left
   tets-test i h = alike-test (λ k. member k (marked 0 cm)) spanned (length cm) i h
+
+  pub tets-alike : (i : ℕ) {r s t : Bool} → r ≡ alike s t → s ≡ member i (marked 0 cm) → t ≡ spanned i → r ≡ alike (member i (marked 0 cm)) (spanned i)
+  tets-alike i e p q = cc
 
   pub tets-end : (i : ℕ) → length cm ≤ i → tets-left i ≡ true
   unfolding tets-left
@@ -69,24 +72,24 @@ module _ (n : ℕ) (ts cm pm : List ℕ) where
   unfolding points-left
   points-test p h = alike-test (λ k. member k (marked 0 pm)) cornered (length pm) p h
 
+  pub points-alike : (p : ℕ) {r s t : Bool} → r ≡ alike s t → s ≡ member p (marked 0 pm) → t ≡ cornered p → r ≡ alike (member p (marked 0 pm)) (cornered p)
+  points-alike p e q u = cc
+
   pub points-end : (p : ℕ) → length pm ≤ p → points-left p ≡ true
   unfolding points-left
   points-end p h = alike-end (λ k. member k (marked 0 pm)) cornered (length pm) p h
 
-pub alike-is : {r s t s′ t′ : Bool} → r ≡ alike s t → s ≡ s′ → t ≡ t′ → r ≡ alike s′ t′
-alike-is e p q = cc
-
 -- ---- the tests in their order
 module _ (n : ℕ) (fs : List Four) (is ps : List ℕ) where
-  counts-wrong : {b : Bool} → (ltb 0 (length is) && leb (length ps) 16) ≡ b → b ≡ false → false ≡ cavity-right n fs is ps
-  unfolding cavity-right
+  counts-wrong : {b : Bool} → (ltb 0 (length is) && leb (length ps) 16) ≡ b → b ≡ false → false ≡ cavity-good n fs is ps
+  unfolding cavity-good
   counts-wrong e f = sym (ap (λ (x : Bool). x && (same-numbers ps (points-of n fs is) && same-numbers is (tets-in ps fs))) (e ∙ f))
 
-  pub wrong-count : {many few : ℕ} → many ≡ length is → few ≡ length ps → not (ltb 0 many && leb few 16) ≡ true → false ≡ cavity-right n fs is ps
+  pub wrong-count : {many few : ℕ} → many ≡ length is → few ≡ length ps → not (ltb 0 many && leb few 16) ≡ true → false ≡ cavity-good n fs is ps
   wrong-count {many} {few} e f h = counts-wrong (cc) (not-true (ltb 0 many && leb few 16) h)
 
-  pub wrong-tets : {r : Bool} → r ≡ same-numbers is (tets-in ps fs) → not r ≡ true → false ≡ cavity-right n fs is ps
-  unfolding cavity-right
+  pub wrong-tets : {r : Bool} → r ≡ same-numbers is (tets-in ps fs) → not r ≡ true → false ≡ cavity-good n fs is ps
+  unfolding cavity-good
   wrong-tets {r} e h =
       sym
       (ap (λ (x : Bool). (ltb 0 (length is) && leb (length ps) 16) && (same-numbers ps (points-of n fs is) && x)) (sym e ∙ not-true r h)
@@ -95,8 +98,8 @@ module _ (n : ℕ) (fs : List Four) (is ps : List ℕ) where
 
   pub right-but-points :
       {many few : ℕ} {r s : Bool} → many ≡ length is → few ≡ length ps → not (ltb 0 many && leb few 16) ≡ false → r ≡ same-numbers is (tets-in ps fs) →
-      not r ≡ false → s ≡ same-numbers ps (points-of n fs is) → s ≡ cavity-right n fs is ps
-  unfolding cavity-right
+      not r ≡ false → s ≡ same-numbers ps (points-of n fs is) → s ≡ cavity-good n fs is ps
+  unfolding cavity-good
   right-but-points {many} {few} {r} {s} e f h g k m =
       m
       ∙ sym

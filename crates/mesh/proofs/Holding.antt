@@ -13,10 +13,10 @@ use lib.IntN.{ℤ}
 use Rattle.laws.proofs.Checker.Points.{points-count}
 use Rattle.laws.proofs.Basics.Tests.{and-of}
 use Rattle.bench_rules.specs.Bench.{Bench, no-mesh, opened, held, held-with, mesh-good, cavity-good, mesh-refusal, mesh-qualities, mesh-fours, same-numbers}
-use Rattle.bench_rules.specs.Marks.{marked}
-use Rattle.bench_rules.specs.Sound.{Sound-mesh, marked-cavity, cavity-by, bench-of}
-use Rattle.bench_rules.proofs.GoodMesh.{good}
-use Rattle.mesh.specs.State.{cavity-right, state-of}
+use Rattle.bench_rules.specs.inner.Marks.{marked}
+use Rattle.bench_rules.specs.inner.Sound.{Sound-mesh, marked-cavity, cavity-by, bench-of}
+use Rattle.bench_rules.proofs.Mesh.Good.{good}
+use Rattle.mesh.specs.inner.State.{state-of}
 use Rattle.mesh.proofs.Refusing.{few-points, sound-mesh}
 
 -- ---- what the later tests may take for granted
@@ -59,16 +59,16 @@ module _ (cs : List ℤ) (ts qs : List ℕ) (o : ℕ) (cm pm : List ℕ) (k : �
       closed-holds e =
           sym (ap state-of (mesh-held ∙ ap (λ (b : Bool). held-with true value (cond b none (some (marked-cavity cm pm)))) (eq-eqb o 0 e)))
 
-      cavity-held : (o ≡ 0 → ⊥) → {b : Bool} → cavity-right (length cs / 3) (mesh-fours ts) (marked 0 cm) (marked 0 pm) ≡ b → held value ≡ cond b (opened (marked-cavity cm pm)) no-mesh
-      unfolding held-with cavity-by cavity-good cavity-right bench-of marked-cavity
+      cavity-held : (o ≡ 0 → ⊥) → {b : Bool} → cavity-good (length cs / 3) (mesh-fours ts) (marked 0 cm) (marked 0 pm) ≡ b → held value ≡ cond b (opened (marked-cavity cm pm)) no-mesh
+      unfolding held-with cavity-by bench-of marked-cavity
       cavity-held n e =
           mesh-held ∙ ap (λ (b : Bool). held-with true value (cond b none (some (marked-cavity cm pm)))) (ne-eqb o 0 n)
           ∙ ap (λ (b : Bool). cond b (opened (marked-cavity cm pm)) no-mesh) e
 
-      pub open-holds : (o ≡ 0 → ⊥) → cavity-right (length cs / 3) (mesh-fours ts) (marked 0 cm) (marked 0 pm) ≡ true → 2 ≡ state-of (held value)
+      pub open-holds : (o ≡ 0 → ⊥) → {r : Bool} → r ≡ cavity-good (length cs / 3) (mesh-fours ts) (marked 0 cm) (marked 0 pm) → r ≡ true → 2 ≡ state-of (held value)
       unfolding state-of
-      open-holds n e = sym (ap state-of (cavity-held n e))
+      open-holds n e t = sym (ap state-of (cavity-held n (sym e ∙ t)))
 
-      pub wrong-holds : (o ≡ 0 → ⊥) → cavity-right (length cs / 3) (mesh-fours ts) (marked 0 cm) (marked 0 pm) ≡ false → 0 ≡ state-of (held value)
+      pub wrong-holds : (o ≡ 0 → ⊥) → {r : Bool} → r ≡ cavity-good (length cs / 3) (mesh-fours ts) (marked 0 cm) (marked 0 pm) → r ≡ false → 0 ≡ state-of (held value)
       unfolding state-of
-      wrong-holds n e = sym (ap state-of (cavity-held n e))
+      wrong-holds n e t = sym (ap state-of (cavity-held n (sym e ∙ t)))

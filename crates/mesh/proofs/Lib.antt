@@ -1,4 +1,5 @@
 pub mod TriCodes
+pub mod MeshFaces
 pub mod FaceNumbers
 pub mod Repeats
 pub mod Refusing

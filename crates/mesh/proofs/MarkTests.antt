@@ -12,10 +12,10 @@ use Rattle.laws.specs.Laws.{corner-of}
 use Rattle.laws.specs.inner.ListedFours.{four-at}
 use Rattle.laws.proofs.Basics.Scan.{Step}
 use Rattle.bench_rules.specs.Bench.{mesh-fours, member, nth, corner-of-any, corners-in}
-use Rattle.bench_rules.specs.Marks.{marked}
-use Rattle.bench_rules.specs.Sound.{Marks-within}
-use Rattle.bench_rules.proofs.MeshFours.{mesh-fours-length, mesh-nth}
-use Rattle.bench_rules.proofs.Marked.{marked-next, marked-behind, marked-done, member-marked}
+use Rattle.bench_rules.specs.inner.Marks.{marked}
+use Rattle.bench_rules.specs.inner.Sound.{Marks-within}
+use Rattle.bench_rules.proofs.Mesh.Fours.{mesh-fours-length, mesh-nth}
+use Rattle.bench_rules.proofs.Marks.Marked.{marked-next, marked-next-member, marked-behind, marked-done, member-marked}
 
 -- ---- one mark
 pub unmarked-behind : (ms : List ℕ) (i : ℕ) → length ms ≤ i → false ≡ member i (marked 0 ms)
@@ -53,29 +53,23 @@ module _ (ts cm : List ℕ) (p : ℕ) where
   unfolding corner-left
   corner-start = refl
 
-  pub corner-step : (i : ℕ) → i < length ts / 4 → i < length cm → Step (corner-left i) (not (eqb (getD cm i 0) 0) && corner-of p (four-at ts i)) (corner-left (i + 1))
+  pub corner-step : (i : ℕ) → i < length ts / 4 → i < length cm → Step (corner-left i) (member i (marked 0 cm) && corner-of p (four-at ts i)) (corner-left (i + 1))
   unfolding corner-left corner-of-any
   corner-step i h k =
-      record { is = ap (corner-of-any p (mesh-fours ts)) (marked-next cm i k) ∙ go (eqb (getD cm i 0) 0) ∙ ap by-corners (mesh-nth ts i h) }
+      record { is = ap (corner-of-any p (mesh-fours ts)) (marked-next-member cm i k) ∙ go (member i (marked 0 cm)) ∙ ap by-corners (mesh-nth ts i h) }
     where
       by-corners : Four → Bool
-      by-corners f = (not (eqb (getD cm i 0) 0) && corner-of p f) || corner-of-any p (mesh-fours ts) (marked (i + 1) (drop (i + 1) cm))
+      by-corners f = (member i (marked 0 cm) && corner-of p f) || corner-of-any p (mesh-fours ts) (marked (i + 1) (drop (i + 1) cm))
 
       go :
-          (b : Bool) → corner-of-any p (mesh-fours ts) (cond b [] (i ∷ []) ++ marked (i + 1) (drop (i + 1) cm))
-          ≡ ((not b && corner-of p (nth (mesh-fours ts) i)) || corner-of-any p (mesh-fours ts) (marked (i + 1) (drop (i + 1) cm)))
+          (b : Bool) → corner-of-any p (mesh-fours ts) (cond b (i ∷ []) [] ++ marked (i + 1) (drop (i + 1) cm))
+          ≡ ((b && corner-of p (nth (mesh-fours ts) i)) || corner-of-any p (mesh-fours ts) (marked (i + 1) (drop (i + 1) cm)))
       go true = refl
       go false = refl
 
   pub corner-end : (i : ℕ) → length ts / 4 ≤ i → Marks-within (length ts / 4) cm → corner-left i ≡ false
   unfolding corner-left corner-of-any
   corner-end i h w = ap (corner-of-any p (mesh-fours ts)) (marked-done cm (length ts / 4) i w h)
-
-pub corner-unmarked : (m : ℕ) (b : Bool) → m ≡ 0 → false ≡ (not (eqb m 0) && b)
-corner-unmarked m b e = sym (ap (λ (x : Bool). not x && b) (eq-eqb m 0 e))
-
-pub corner-marked : (m p : ℕ) {f g : Four} → (m ≡ 0 → ⊥) → f ≡ g → corner-of p f ≡ (not (eqb m 0) && corner-of p g)
-corner-marked m p {g = g} n e = ap (corner-of p) e ∙ sym (ap (λ (x : Bool). not x && corner-of p g) (ne-eqb m 0 n))
 
 -- ---- four corners in P
 pub corners-by :

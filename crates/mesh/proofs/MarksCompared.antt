@@ -11,10 +11,10 @@ use lib.ListN.{length}
 use Rattle.laws.specs.Fours.{from}
 use Rattle.laws.proofs.Basics.Passes.{Test}
 use Rattle.bench_rules.specs.Bench.{member, pick, same-numbers}
-use Rattle.bench_rules.specs.Marks.{marked}
-use Rattle.bench_rules.proofs.PickedNumbers.{picked-none, from-within}
-use Rattle.bench_rules.proofs.Marked.{member-marked, marked-picked}
-use Rattle.mesh.specs.State.{alike}
+use Rattle.bench_rules.specs.inner.Marks.{marked}
+use Rattle.bench_rules.proofs.Numbers.Picked.{picked-none, from-within}
+use Rattle.bench_rules.proofs.Marks.Marked.{member-marked, marked-picked}
+use Rattle.mesh.specs.inner.State.{alike}
 
 -- ---- two tests with one answer at `left` numbers from i on
 unfoldable pub all-alike : (s t : ℕ → Bool) → (left i : ℕ) → Bool

@@ -18,11 +18,12 @@ use Rattle.laws.specs.Laws.{fours-in}
 use Rattle.laws.specs.inner.ListedFours.{four-at, fours-from}
 use Rattle.laws.proofs.Basics.Passes.{Test}
 use Rattle.laws.proofs.Judge.FourList.{fours-more, fours-done}
+use Rattle.laws.proofs.Order.Bytes.{fours-in-length}
 use Rattle.bench_rules.specs.Bench.{mesh-fours, mesh-qualities, same-numbers}
-use Rattle.bench_rules.specs.Marks.{entries}
-use Rattle.bench_rules.proofs.Picked.{same-numbers-true}
-use Rattle.bench_rules.proofs.Entries.{entries-put, entries-none}
-use Rattle.bench_rules.proofs.MeshFours.{fours-in-length, fours-in-more, mesh-fours-length, mesh-start}
+use Rattle.bench_rules.specs.inner.Marks.{entries}
+use Rattle.bench_rules.proofs.Numbers.Same.{same-numbers-true}
+use Rattle.bench_rules.proofs.Marks.Entries.{entries-put, entries-none}
+use Rattle.bench_rules.proofs.Mesh.Fours.{fours-in-more, mesh-fours-length, mesh-start}
 
 -- ---- one four
 quality-when : (ps : List V3) (f : Four) → millionths-of (measured-four ps f .answer) ≡ four-quality ps f

@@ -13,16 +13,15 @@ use Rattle.geometry.specs.Space.{V3, points-in, solid}
 use Rattle.geometry.specs.Range.{any-far, Present}
 use Rattle.geometry.specs.declared.tetrahedron.Four.{Four}
 use Rattle.laws.specs.Laws.{all-faces, once}
-use Rattle.laws.specs.Check.{two-alike}
+use Rattle.laws.specs.Check.{two-alike, points-right}
 use Rattle.laws.specs.inner.ListedFours.{four-at, fours-from}
 use Rattle.laws.proofs.Checker.Points.{points-count}
 use Rattle.laws.proofs.Basics.Tests.{and-true, or-false}
 use Rattle.laws.proofs.Basics.Scan.{Step}
 use Rattle.laws.proofs.Checker.Chain.{Chain}
 use Rattle.laws.proofs.Judge.FourList.{fours-more, fours-done}
-use Rattle.bench_rules.specs.Bench.{mesh-refusal, mesh-fours, tet-bad, any-tet-bad}
-use Rattle.bench_rules.specs.Sound.{Sound-mesh}
-use Rattle.mesh.specs.Sizes.{points-right, tets-right}
+use Rattle.bench_rules.specs.Bench.{tets-right, mesh-refusal, mesh-fours, tet-bad, any-tet-bad}
+use Rattle.bench_rules.specs.inner.Sound.{Sound-mesh}
 
 -- ---- one tetrahedron: absent points, then repeated ones and the volume
 abbrev pub absent : (n : ℕ) → Four → Bool
@@ -77,7 +76,7 @@ module _ (cs : List ℤ) (ts : List ℕ) where
   from-18 = cond (any-tet-bad (points-in cs) (mesh-fours ts)) 18 from-19
 
   unfoldable pub from-17 : ℕ
-  from-17 = cond (not (tets-right ts)) 17 from-18
+  from-17 = cond (not (tets-right 256 ts)) 17 from-18
 
   unfoldable pub from-4 : ℕ
   from-4 = cond (two-alike (points-in cs)) 4 from-17
@@ -85,7 +84,7 @@ module _ (cs : List ℤ) (ts : List ℕ) where
   unfoldable pub from-3 : ℕ
   from-3 = cond (any-far cs) 3 from-4
 
-  pub at-2 : Chain (mesh-refusal cs ts) (not (points-right cs)) 2 from-3
+  pub at-2 : Chain (mesh-refusal cs ts) (not (points-right 64 cs)) 2 from-3
   unfolding mesh-refusal from-3 from-4 from-17 from-18 from-19
   at-2 = record { is = refl }
 
@@ -97,7 +96,7 @@ module _ (cs : List ℤ) (ts : List ℕ) where
   unfolding from-4
   at-4 = record { is = refl }
 
-  pub at-17 : Chain from-17 (not (tets-right ts)) 17 from-18
+  pub at-17 : Chain from-17 (not (tets-right 256 ts)) 17 from-18
   unfolding from-17
   at-17 = record { is = refl }
 
@@ -114,7 +113,7 @@ pub record Few-points (cs : List ℤ) : Type 0 where
   pub few : length (points-in cs) ≤ 64
   pub short : length cs ≤ 192
 
-pub few-points : (cs : List ℤ) → points-right cs ≡ true → Few-points cs
+pub few-points : (cs : List ℤ) → points-right 64 cs ≡ true → Few-points cs
 few-points cs h =
     let p = and-true (eqb (length cs % 3) 0) (leb 4 (length (points-in cs)) && leb (length (points-in cs)) 64) h in
     let q = and-true (leb 4 (length (points-in cs))) (leb (length (points-in cs)) 64) (p .1) in
@@ -123,7 +122,7 @@ few-points cs h =
     let e = points-count cs in record { few = f; short = omega arith }
 
 pub sound-mesh :
-    (cs : List ℤ) (ts : List ℕ) → points-right cs ≡ true → any-far cs ≡ false → tets-right ts ≡ true →
+    (cs : List ℤ) (ts : List ℕ) → points-right 64 cs ≡ true → any-far cs ≡ false → tets-right 256 ts ≡ true →
     any-tet-bad (points-in cs) (mesh-fours ts) ≡ false → Sound-mesh cs ts
 sound-mesh cs ts h near k sound =
     let p = and-true (eqb (length ts % 4) 0) (leb 1 (length ts / 4) && leb (length ts / 4) 256) k in

@@ -11,7 +11,7 @@ use lib.Seq.{drop-cons, getD-take, length-take-le}
 use Rattle.laws.proofs.Basics.Passes.{Test}
 use Rattle.laws.proofs.Basics.Scan.{Step}
 use Rattle.bench_rules.specs.Bench.{member}
-use Rattle.mesh.specs.Codes.{all-different}
+use Rattle.mesh.specs.inner.Codes.{all-different}
 
 module _ (l : List ℕ) (n : ℕ) (h : n ≤ length l) (k : ℕ) where
   pub taken-step : (x : ℕ) → k < n → Step (member x (drop k (take n l))) (eqb x (getD l k 0)) (member x (drop (k + 1) (take n l)))

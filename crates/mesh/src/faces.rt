@@ -8,9 +8,9 @@ ghost use lib.ListN.{length, getD, take, drop};
 ghost use Rattle.geometry.specs.Space.{points-in};
 ghost use Rattle.laws.specs.Laws.{tri, all-faces, once};
 ghost use Rattle.bench_rules.specs.Bench.{mesh-fours, member};
-ghost use Rattle.bench_rules.specs.Marks.{entries};
-ghost use Rattle.bench_rules.specs.Sound.{Sound-mesh};
-ghost use Rattle.mesh.specs.Codes.{tri-code};
+ghost use Rattle.bench_rules.specs.inner.Marks.{entries};
+ghost use Rattle.bench_rules.specs.inner.Sound.{Sound-mesh};
+ghost use Rattle.mesh.specs.inner.Codes.{tri-code};
 
 pub struct FaceCodes {
     pub code: [u32; 1024],

@@ -8,15 +8,15 @@ ghost use Rattle.geometry.specs.Space.{points-in};
 ghost use Rattle.geometry.specs.Range.{Present};
 ghost use Rattle.geometry.specs.Measure.{four-quality};
 ghost use Rattle.bench_rules.specs.Bench.{same-numbers, mesh-qualities};
-ghost use Rattle.bench_rules.specs.Marks.{entries};
-ghost use Rattle.bench_rules.specs.Sound.{Sound-mesh};
+ghost use Rattle.bench_rules.specs.inner.Marks.{entries};
+ghost use Rattle.bench_rules.specs.inner.Sound.{Sound-mesh};
 
 pub struct Qualities {
     pub quality: [u32; 256],
 }
 
 // The millionths of a tetrahedron, 0 where it is flat.
-pub fn tet_quality(points: &[i32], f: Four) -> u32
+fn tet_quality(points: &[i32], f: Four) -> u32
     requires { ⌜ Present (now points) f ⌝ }
     ensures { λ r. ⌜ r ≡ four-quality (points-in (now (points .entry))) f ⌝ }
 {
@@ -39,7 +39,7 @@ pub fn qualities_of(points: &[i32], tets: &[u8]) -> Qualities
 }
 
 // Whether the qualities are the measured ones.
-pub fn are_measured(points: &[i32], tets: &[u8], qualities: &[u32]) -> bool
+pub(crate) fn are_measured(points: &[i32], tets: &[u8], qualities: &[u32]) -> bool
     requires { ⌜ Sound-mesh (now points) (now tets) ⌝ }
     ensures { λ r. ⌜ r ≡ same-numbers (now (qualities .entry)) (mesh-qualities (now (points .entry)) (now (tets .entry))) ⌝ }
 {

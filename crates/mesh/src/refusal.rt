@@ -10,12 +10,12 @@ ghost use mathlib.Core.Path.{_≡_};
 ghost use mathlib.Core.Bool.{false};
 ghost use Rattle.geometry.specs.Space.{points-in};
 ghost use Rattle.geometry.specs.Range.{any-far};
-ghost use Rattle.bench_rules.specs.Bench.{mesh-refusal, mesh-fours, tet-bad, any-tet-bad};
-ghost use Rattle.mesh.specs.Sizes.{points-right, tets-right};
+ghost use Rattle.laws.specs.Check.{points-right};
+ghost use Rattle.bench_rules.specs.Bench.{tets-right, mesh-refusal, mesh-fours, tet-bad, any-tet-bad};
 
 // Whether number 2 lets the points pass.
 fn points_fit(points: &[i32]) -> bool
-    ensures { λ r. ⌜ r ≡ points-right (now (points .entry)) ⌝ }
+    ensures { λ r. ⌜ r ≡ points-right 64 (now (points .entry)) ⌝ }
 {
     let n = points.len() / 3;
     (points.len() % 3 == 0) & ((4 <= n) & (n <= 64))
@@ -23,7 +23,7 @@ fn points_fit(points: &[i32]) -> bool
 
 // Whether number 17 lets the tetrahedra pass.
 fn tets_fit(tets: &[u8]) -> bool
-    ensures { λ r. ⌜ r ≡ tets-right (now (tets .entry)) ⌝ }
+    ensures { λ r. ⌜ r ≡ tets-right 256 (now (tets .entry)) ⌝ }
 {
     let m = tets.len() / 4;
     (tets.len() % 4 == 0) & ((1 <= m) & (m <= 256))

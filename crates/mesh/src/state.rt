@@ -1,14 +1,14 @@
 // What a value handed over holds: no mesh, a mesh, or a mesh and a cavity. `state_of` takes any lists beside 256 and 64 marks.
 // Assumes nothing.
-use crate::cavity::is_cavity_right;
+use crate::cavity::is_cavity_good;
 use crate::qualities::are_measured;
 use crate::refusal::mesh_refusal;
 ghost use mathlib.Core.Path.{_≡_};
 ghost use Prim.Native.Nat.{ℕ};
 ghost use lib.ListN.{length};
 ghost use Rattle.bench_rules.specs.Bench.{held};
-ghost use Rattle.bench_rules.specs.Sound.{bench-of, cavity-by};
-ghost use Rattle.mesh.specs.State.{state-of};
+ghost use Rattle.bench_rules.specs.inner.Sound.{bench-of, cavity-by};
+ghost use Rattle.mesh.specs.inner.State.{state-of};
 
 // 0 for no mesh, 1 for a mesh, 2 for a mesh and a cavity.
 pub fn state_of(
@@ -31,7 +31,7 @@ pub fn state_of(
     if is_open == 0 {
         return 1;
     }
-    if is_cavity_right(points.len() / 3, tets, in_cavity, in_points) {
+    if is_cavity_good(points.len() / 3, tets, in_cavity, in_points) {
         return 2;
     }
     0

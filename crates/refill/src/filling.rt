@@ -1,8 +1,8 @@
 // The best filling of an open cavity: the cavity as a job, and the search's answer to it. Assumes nothing.
-use crate::boundary::boundary_of;
-use crate::gather::inside_of;
-use crate::place::cavity_points;
-use crate::table::table_of;
+use cavity_job::boundary::boundary_of;
+use cavity_job::gather::inside_of;
+use cavity_job::place::cavity_points;
+use cavity_job::table::table_of;
 use search::search::search;
 ghost use mathlib.Core.Path.{_≡_};
 ghost use mathlib.Core.Bool.{false};
@@ -10,18 +10,18 @@ ghost use Prim.Native.Nat.{_≤_};
 ghost use lib.ListN.{length};
 ghost use Rattle.geometry.specs.Space.{points-in};
 ghost use Rattle.geometry.specs.Range.{any-far};
-ghost use Rattle.refill.specs.Refill.{Has-open, Answered, Filled-best};
+ghost use Rattle.refill.specs.inner.Refill.{Has-open, Answered, Filled-best};
 
 // The search's answer, with the filling's bytes at the start of the array.
-pub struct Answer {
-    pub number: u32,
-    pub count: u32,
-    pub worst: u32,
-    pub corner: [u8; 7280],
+struct Answer {
+    number: u32,
+    count: u32,
+    worst: u32,
+    corner: [u8; 7280],
 }
 
 // The same with the mesh's numbers of the cavity's points.
-pub struct Filling {
+pub(crate) struct Filling {
     pub number: u32,
     pub count: u32,
     pub worst: u32,
@@ -31,7 +31,7 @@ pub struct Filling {
 }
 
 // The answer to a job with no kept edges and every four measured.
-pub fn search_measured(points: &[i32], triangles: &[u8]) -> Answer
+fn search_measured(points: &[i32], triangles: &[u8]) -> Answer
     requires { ⌜ (any-far (now points) ≡ false) × (length (points-in (now points)) ≤ 16) ⌝ }
     ensures { λ r. ⌜ Answered (now (points .entry)) (now (triangles .entry)) r ⌝ }
 {
@@ -49,7 +49,13 @@ pub fn search_measured(points: &[i32], triangles: &[u8]) -> Answer
     }
 }
 
-pub fn best_filling(points: &[i32], tets: &[u8], in_cavity: &[u8], in_points: &[u8]) -> Filling
+// The best filling of the cavity with its worst quality, in front of zeros; 15 and zeros alone where no list is lawful.
+pub(crate) fn best_filling(
+    points: &[i32],
+    tets: &[u8],
+    in_cavity: &[u8],
+    in_points: &[u8],
+) -> Filling
     requires { ⌜ Has-open (now points) (now tets) (now «in_cavity») (now «in_points») ⌝ }
     ensures { λ r. ⌜ Filled-best (now (points .entry)) (now (tets .entry)) (now («in_cavity» .entry)) (now («in_points» .entry)) r ⌝ }
 {

@@ -1,13 +1,15 @@
 // The mesh that results: the rest of the list in its order, then the filling with the mesh's numbers. Assumes nothing.
-use crate::gather::TetList;
+use cavity_job::gather::TetList;
 ghost use mathlib.Core.Path.{_≡_};
-ghost use mathlib.Core.List.{_++_, map};
+ghost use mathlib.Core.List.{List, _++_, map};
 ghost use Prim.Native.Nat.{_+_, _*_, _≤_};
 ghost use lib.ListN.{length, getD};
-ghost use Rattle.laws.specs.Laws.{bytes, fours-in};
-ghost use Rattle.bench_rules.specs.Bench.{back};
-ghost use Rattle.bench_rules.specs.Marks.{entries};
-ghost use Rattle.refill.specs.Refill.{tets-of, Laid-out};
+ghost use Rattle.geometry.specs.declared.tetrahedron.Four.{Four};
+ghost use Rattle.laws.specs.Laws.{fours-in};
+ghost use Rattle.bench_rules.specs.Bench.{mesh-numbers};
+ghost use Rattle.bench_rules.specs.inner.Marks.{entries};
+ghost use Rattle.cavity_job.specs.inner.Cavity.{Holds};
+ghost use Rattle.refill.specs.inner.Refill.{tets-of, Stored-list};
 
 // The mesh's number of a point of the cavity; 0 behind the end.
 fn number_of(numbers: &[u8], p: u8) -> u8
@@ -23,7 +25,7 @@ fn number_of(numbers: &[u8], p: u8) -> u8
 // The first m fours of a filling with the mesh's numbers.
 fn renamed(filling: &[u8], m: usize, numbers: &[u8]) -> TetList
     requires { ⌜ (m ≤ 256) × (m * 4 ≤ length (now filling)) ⌝ }
-    ensures { λ r. ⌜ (r .tet ≡ entries 1024 0 (bytes (map (back (now (numbers .entry))) (fours-in m (now (filling .entry)))))) × (r .count ≡ m) ⌝ }
+    ensures { λ r. ⌜ Holds (map (mesh-numbers (now (numbers .entry))) (fours-in m (now (filling .entry)))) r ⌝ }
 {
     let mut tet: [u8; 1024] = [0; 1024];
     for i in 0..m * 4 {
@@ -34,7 +36,7 @@ fn renamed(filling: &[u8], m: usize, numbers: &[u8]) -> TetList
 
 // One list, then another.
 fn appended(first: TetList, second: TetList) -> TetList
-    requires { ⌜ Laid-out first × (first .count + second .count ≤ 256) ⌝ }
+    requires { ⌜ Stored-list first × (first .count + second .count ≤ 256) ⌝ }
     ensures { λ r. ⌜ (r .tet ≡ entries 1024 0 (tets-of first ++ tets-of second)) × (r .count ≡ first .count + second .count) ⌝ }
 {
     let mut tet = first.tet;
@@ -49,9 +51,10 @@ fn appended(first: TetList, second: TetList) -> TetList
     }
 }
 
-pub fn joined(rest: TetList, filling: &[u8], m: usize, numbers: &[u8]) -> TetList
-    requires { ⌜ Laid-out rest × (rest .count + m ≤ 256) × (m * 4 ≤ length (now filling)) ⌝ }
-    ensures { λ r. ⌜ (r .tet ≡ entries 1024 0 (tets-of rest ++ bytes (map (back (now (numbers .entry))) (fours-in m (now (filling .entry)))))) × (r .count ≡ rest .count + m) ⌝ }
+// The rest, then the first m fours of a filling with the mesh's numbers.
+pub(crate) fn joined(rest: TetList, filling: &[u8], m: usize, numbers: &[u8]) -> TetList
+    requires { ⌜ Stored-list rest × (rest .count + m ≤ 256) × (m * 4 ≤ length (now filling)) ⌝ }
+    ensures { λ r. ⌜ ((fs : List Four) → Holds fs rest → Holds (fs ++ map (mesh-numbers (now (numbers .entry))) (fours-in m (now (filling .entry)))) r) ⌝ }
 {
     let new = renamed(filling, m, numbers);
     appended(rest, new)

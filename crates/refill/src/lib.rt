@@ -1,9 +1,5 @@
-// Replacing a cavity (document 01, Replace): the cavity as a job, the search's filling, and the mesh that results. Assumes nothing.
-pub mod boundary;
+// Replacing a cavity (document 01, Replace): the search's filling of the cavity, and the mesh that results. Assumes nothing.
 pub mod filling;
-pub mod gather;
 pub mod joined;
-pub mod place;
 pub mod refill;
-pub mod table;
 pub mod worst;

@@ -1,14 +1,17 @@
 // From a mesh with an open cavity to the mesh after replace, or to number 36, 37 or 38. Assumes nothing.
 use crate::filling::best_filling;
-use crate::gather::TetList;
-use crate::gather::outside_of;
 use crate::joined::joined;
 use crate::worst::worst_inside;
+use cavity_job::gather::TetList;
+use cavity_job::gather::outside_of;
 use mesh::faces::faces_once;
 use mesh::qualities::qualities_of;
 ghost use mathlib.Core.Path.{_≡_};
-ghost use Rattle.bench_rules.specs.Sound.{Sound-mesh, Open-mesh};
-ghost use Rattle.refill.specs.Refill.{refused-with, tets-of, Laid-out, put-list, Refills};
+ghost use mathlib.Core.Bool.{cond};
+ghost use Rattle.laws.specs.Laws.{once};
+ghost use Rattle.bench_rules.specs.inner.Sound.{Sound-mesh, Open-mesh};
+ghost use Rattle.cavity_job.specs.inner.Faces.{outward-faces};
+ghost use Rattle.refill.specs.inner.Refill.{refused-with, tets-of, Stored-list, put-list, Refills};
 
 pub struct Refilled {
     pub number: u32,
@@ -29,15 +32,24 @@ fn refused(number: u32) -> Refilled
     }
 }
 
+// 38 where an outward face would belong to two tetrahedra, else 0.
+fn faces_refusal(points: &[i32], tets: &[u8]) -> u32
+    requires { ⌜ Sound-mesh (now points) (now tets) ⌝ }
+    ensures { λ r. ⌜ r ≡ cond (once (outward-faces (now (points .entry)) (now (tets .entry)))) 0 38 ⌝ }
+{
+    if faces_once(points, tets) { 0 } else { 38 }
+}
+
 // A mesh of these tetrahedra, or 38.
 fn put_in(points: &[i32], new: TetList) -> Refilled
-    requires { ⌜ Laid-out new × Sound-mesh (now points) (tets-of new) ⌝ }
+    requires { ⌜ Stored-list new × Sound-mesh (now points) (tets-of new) ⌝ }
     ensures { λ r. ⌜ r ≡ put-list (now (points .entry)) (tets-of new) ⌝ }
 {
     let tets = new.tet;
     let k = new.count * 4;
-    if !faces_once(points, &tets[..k]) {
-        return refused(38);
+    let number = faces_refusal(points, &tets[..k]);
+    if number != 0 {
+        return refused(number);
     }
     let q = qualities_of(points, &tets[..k]);
     let qualities = q.quality;
@@ -49,6 +61,7 @@ fn put_in(points: &[i32], new: TetList) -> Refilled
     }
 }
 
+// 36 where no filling is better, 37 where the list grows too long, 38; else the new mesh.
 pub fn refill(
     points: &[i32],
     tets: &[u8],

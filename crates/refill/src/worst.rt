@@ -3,7 +3,7 @@ ghost use mathlib.Core.Path.{_≡_};
 ghost use Prim.Native.Nat.{min};
 ghost use lib.ListN.{getD};
 ghost use Rattle.bench_rules.specs.Bench.{least-of};
-ghost use Rattle.bench_rules.specs.Marks.{marked};
+ghost use Rattle.bench_rules.specs.inner.Marks.{marked};
 
 // 0 behind the end.
 fn quality_at(qualities: &[u32], i: usize) -> u32
@@ -25,7 +25,7 @@ fn lower(a: u32, b: u32) -> u32
 }
 
 // 1,000,000 where no tetrahedron is marked.
-pub fn worst_inside(qualities: &[u32], in_cavity: &[u8]) -> u32
+pub(crate) fn worst_inside(qualities: &[u32], in_cavity: &[u8]) -> u32
     ensures { λ r. ⌜ r ≡ least-of 1000000 (now (qualities .entry)) (marked 0 (now («in_cavity» .entry))) ⌝ }
 {
     let mut worst: u32 = 1000000;

@@ -1,14 +1,12 @@
 -- `bench::grow::grow_by` meets its contract: what the functions over the mesh take for granted holds of an open cavity, and the marks are those of the wider one. Assumes nothing.
-use mathlib.Core.Path.{_≡_, sym, ap, _∙_}
+use mathlib.Core.Path.{_≡_, sym}
 use native.Mathlib.Omega.{arith}
 use borrow.Author.Needs.{needs}
-use lib.ListN.{length}
-use Rattle.bench_rules.specs.Marks.{marks}
-use Rattle.bench_rules.proofs.MarksRead.{marks-length}
-use Rattle.bench.specs.Store.{Fits}
-use Rattle.bench.proofs.HeldMesh.{Held-open, held-open, tets-long, qualities-long, corners-below, points-marked}
+use Rattle.bench_rules.specs.inner.Marks.{marks}
+use Rattle.bench.specs.inner.Steps.{Fits}
+use Rattle.bench.proofs.HeldMesh.{Held-open, held-open, tets-long, qualities-long}
 use Rattle.bench.proofs.GrowAnswers.{near-by, growing}
-use Rattle.bench.proofs.GrowDone.{corner-is, corner-present, grow-done}
+use Rattle.bench.proofs.GrowDone.{corner-is, grow-done}
 use Rattle.bench.proofs.grow.grow_by.Statement.{statement}
 use Rattle.bench.proofs.grow.grow_by.Tie as tie
 
@@ -73,7 +71,7 @@ slice-aggregate-joining-4 c = search needs
 joining-requires : tie.Need-joining-requires
 joining-requires c κs =
     let o = start (c .before .before .before .before) in
-    (growing (o .args .b) (is-open o) (near-marks o) (fits o .in-points), is-open o .mesh .counts .points-few)
+    growing (o .args .b) (is-open o) (near-marks o)
 
 slice-aggregate-with-point : tie.Need-slice-aggregate-with-point
 slice-aggregate-with-point c =
@@ -81,9 +79,7 @@ slice-aggregate-with-point c =
 
 with-point-requires : tie.Need-with-point-requires
 with-point-requires c κs =
-    let o = start (c .before .before .before .before .before .before) in
-    let s = o .args .b in
-    (is-open o .mesh .counts .points-few, corner-present s (is-open o) (o .pre) (corner-is s (is-open o) (o .pre) (c .before .joining .ensures)), fits o .in-points, points-marked s (is-open o))
+    let o = start (c .before .before .before .before .before .before) in is-open o .mesh .counts .points-few
 
 array-share-prefix-tets-2 : tie.Need-array-share-prefix-tets-2
 array-share-prefix-tets-2 c =
@@ -103,10 +99,7 @@ spanned-requires c κs =
     let s = o .args .b in
     let h = is-open o .mesh in
     let l = tets-long s h in
-    let n = h .counts .points-few in
-    let m = h .counts .tets-few in
-    let e = c .before .before .before .with-point .ensures in
-    (omega arith, ap length e ∙ marks-length 64 _, corners-below s h 64 n)
+    let m = h .counts .tets-few in omega arith
 
 with-cavity-requires : tie.Need-with-cavity-requires
 with-cavity-requires c κs = search needs

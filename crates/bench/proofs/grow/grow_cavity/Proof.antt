@@ -3,9 +3,9 @@ use mathlib.Core.Path.{sym, _∙_}
 use native.Mathlib.Omega.{arith}
 use borrow.Author.Needs.{needs}
 use borrow.Author.Tests.{not-true, not-false}
-use Rattle.bench.specs.Store.{Fits}
+use Rattle.bench.specs.inner.Steps.{Fits}
 use Rattle.bench.proofs.HeldMesh.{Held-open, held-open, tets-long, tets-marked}
-use Rattle.bench.proofs.GrowAnswers.{near-is, grow-full, grow-alone, has-around}
+use Rattle.bench.proofs.GrowAnswers.{near-is, grow-full, grow-alone, has-neighbours}
 use Rattle.bench.proofs.grow.grow_cavity.Statement.{statement}
 use Rattle.bench.proofs.grow.grow_cavity.Tie as tie
 
@@ -49,15 +49,15 @@ array-share-prefix-tets c =
     let o = start (c .before) in
     let l = fits o .tets in let m = is-open o .mesh .counts .tets-few in omega arith
 
-slice-aggregate-around-of : tie.Need-slice-aggregate-around-of
-slice-aggregate-around-of c =
+slice-aggregate-neighbours-of : tie.Need-slice-aggregate-neighbours-of
+slice-aggregate-neighbours-of c =
     let o = start (c .before .before) in sym (tets-long (o .args .b) (is-open o .mesh))
 
-slice-aggregate-around-of-2 : tie.Need-slice-aggregate-around-of-2
-slice-aggregate-around-of-2 c = search needs
+slice-aggregate-neighbours-of-2 : tie.Need-slice-aggregate-neighbours-of-2
+slice-aggregate-neighbours-of-2 c = search needs
 
-around-of-requires : tie.Need-around-of-requires
-around-of-requires c κs =
+neighbours-of-requires : tie.Need-neighbours-of-requires
+neighbours-of-requires c κs =
     let o = start (c .before .before .before) in
     let l = tets-long (o .args .b) (is-open o .mesh) in
     let m = is-open o .mesh .counts .tets-few in
@@ -76,7 +76,7 @@ returns-2 c =
     let o = start k in
     let e = k .count-marked .ensures in
     let l = a .before .before .before .if1 .left in
-    grow-alone (o .args .b) (is-open o) (near-is (o .args .b) (is-open o) (a .around-of .ensures)) (omega arith)
+    grow-alone (o .args .b) (is-open o) (near-is (o .args .b) (is-open o) (a .neighbours-of .ensures)) (omega arith)
     (sym (not-true (c .before .any-marked .result) (c .if2 .taken)) ∙ c .before .any-marked .ensures)
 
 grow-by-requires : tie.Need-grow-by-requires
@@ -86,7 +86,7 @@ grow-by-requires c κs =
     let o = start k in
     let e = k .count-marked .ensures in
     let l = a .before .before .before .if1 .left in
-    has-around (o .args .b) (is-open o) (near-is (o .args .b) (is-open o) (a .around-of .ensures)) (o .pre) (omega arith)
+    has-neighbours (o .args .b) (is-open o) (near-is (o .args .b) (is-open o) (a .neighbours-of .ensures)) (o .pre) (omega arith)
     (sym (not-false (c .before .any-marked .result) (c .if2 .left)) ∙ c .before .any-marked .ensures)
 
 returns-3 : tie.Need-returns-3
@@ -102,9 +102,9 @@ grow-cavity-spec =
     count-marked-requires
     returns
     array-share-prefix-tets
-    slice-aggregate-around-of
-    slice-aggregate-around-of-2
-    around-of-requires
+    slice-aggregate-neighbours-of
+    slice-aggregate-neighbours-of-2
+    neighbours-of-requires
     slice-aggregate-any-marked
     any-marked-requires
     returns-2

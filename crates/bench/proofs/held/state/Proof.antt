@@ -5,7 +5,7 @@ use native.Mathlib.Omega.{arith}
 use borrow.Author.Needs.{needs}
 use lib.Seq.{length-take-le}
 use Rattle.bench.specs.declared.bench.Bench.{Bench}
-use Rattle.bench.specs.Store.{Fits}
+use Rattle.bench.specs.inner.Steps.{Fits}
 use Rattle.bench.proofs.HeldValue.{Counts, points-too-many, tets-too-many, state-is}
 use Rattle.bench.proofs.held.state.Statement.{statement}
 use Rattle.bench.proofs.held.state.Tie as tie

@@ -7,8 +7,8 @@ use lib.ListN.{length, getD, take}
 use lib.IntN.{pos}
 use mir.Syntax.{w32}
 use mir.Facts.{toZ-ofZ}
-use Rattle.bench_rules.specs.Marks.{entries}
-use Rattle.bench_rules.proofs.Entries.{entries-none, entries-more, entries-all}
+use Rattle.bench_rules.specs.inner.Marks.{entries}
+use Rattle.bench_rules.proofs.Marks.Entries.{entries-none, entries-more, entries-all}
 use Rattle.bench.proofs.load.coordinates_in.Statement.{statement}
 use Rattle.bench.proofs.load.coordinates_in.Tie as tie
 

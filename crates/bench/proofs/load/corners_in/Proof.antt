@@ -3,8 +3,8 @@ use mathlib.Core.Path.{_≡_, refl, _∙_}
 use Prim.Native.Nat.{_-_, _≤_}
 use native.Mathlib.Omega.{arith}
 use lib.ListN.{length, take}
-use Rattle.bench_rules.specs.Marks.{entries}
-use Rattle.bench_rules.proofs.Entries.{entries-none, entries-more, entries-all}
+use Rattle.bench_rules.specs.inner.Marks.{entries}
+use Rattle.bench_rules.proofs.Marks.Entries.{entries-none, entries-more, entries-all}
 use Rattle.bench.proofs.load.corners_in.Statement.{statement}
 use Rattle.bench.proofs.load.corners_in.Tie as tie
 

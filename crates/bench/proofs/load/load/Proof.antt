@@ -23,8 +23,8 @@ returns-2 c =
     load-refused (a .b) (a .points .now) (a .tets .now) (λ e. c .before .before .if1 .left (k .state .ensures ∙ e)) (c .before .mesh-refusal .result)
     (c .before .mesh-refusal .ensures) (c .if2 .taken)
 
-laid-mesh-requires : tie.Need-laid-mesh-requires
-laid-mesh-requires c κs = search needs
+stored-mesh-requires : tie.Need-stored-mesh-requires
+stored-mesh-requires c κs = search needs
 
 returns-3 : tie.Need-returns-3
 returns-3 c =
@@ -32,9 +32,9 @@ returns-3 c =
     let k = r .before .before in
     let a = k .before .before .args in
     load-done (a .b) (a .points .now) (a .tets .now) (λ e. r .before .if1 .left (k .state .ensures ∙ e)) (sym (r .mesh-refusal .ensures) ∙ c .before .if2 .left)
-    (c .laid-mesh .ensures)
+    (c .stored-mesh .ensures)
 
 pub load-spec : {M : Type 1} → statement M
 load-spec =
     tie.close
-    (tie.spec state-requires returns mesh-refusal-requires returns-2 laid-mesh-requires returns-3)
+    (tie.spec state-requires returns mesh-refusal-requires returns-2 stored-mesh-requires returns-3)

@@ -1,6 +1,6 @@
 -- `bench::opening::one_mark` meets its contract. Assumes nothing.
 use borrow.Author.Needs.{needs}
-use Rattle.bench_rules.proofs.MarksRead.{one-mark-set}
+use Rattle.bench_rules.proofs.Marks.Read.{one-mark-set}
 use Rattle.bench.proofs.opening.one_mark.Statement.{statement}
 use Rattle.bench.proofs.opening.one_mark.Tie as tie
 

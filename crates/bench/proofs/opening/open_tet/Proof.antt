@@ -1,12 +1,13 @@
--- `bench::opening::open_tet` meets its contract: the mesh's corners are numbers of its points, and the marks are those of the cavity laid out. Assumes nothing.
+-- `bench::opening::open_tet` meets its contract: the mesh's corners are numbers of its points, and the marks are those of the cavity stored. Assumes nothing.
 use mathlib.Core.Path.{sym, ap}
 use native.Mathlib.Omega.{arith}
 use borrow.Author.Needs.{needs}
 use Rattle.bench_rules.specs.Bench.{held}
-use Rattle.bench_rules.proofs.GoodMesh.{held-true, is-held}
-use Rattle.bench.specs.Store.{shown, Fits}
+use Rattle.bench_rules.proofs.Mesh.Good.{held-true, is-held}
+use Rattle.bench.specs.Store.{shown}
+use Rattle.bench.specs.inner.Steps.{Fits}
 use Rattle.bench.proofs.HeldValue.{state-mesh}
-use Rattle.bench.proofs.HeldMesh.{Held-mesh, held-mesh, tets-long, corners-below}
+use Rattle.bench.proofs.HeldMesh.{Held-mesh, held-mesh, tets-long}
 use Rattle.bench.proofs.OpenAnswers.{open-done}
 use Rattle.bench.proofs.opening.open_tet.Statement.{statement}
 use Rattle.bench.proofs.opening.open_tet.Tie as tie
@@ -49,10 +50,8 @@ corners-of-requires c κs =
     let o = c .before .before .before .before in
     let h = has-mesh o in
     let n = h .counts .points-few in
-    let m = h .counts .tets-few in
     let e = tets-long (o .args .b) h in
-    let l = o .pre .1 in
-    (omega arith, omega arith, omega arith, corners-below (o .args .b) h (o .args .b .«point_count») (omega arith))
+    let l = o .pre .1 in (omega arith, omega arith)
 
 one-mark-requires : tie.Need-one-mark-requires
 one-mark-requires c κs =

@@ -2,7 +2,7 @@
 use mathlib.Core.Path.{sym}
 use native.Mathlib.Omega.{arith}
 use borrow.Author.Needs.{needs}
-use Rattle.bench.specs.Store.{Fits}
+use Rattle.bench.specs.inner.Steps.{Fits}
 use Rattle.bench.proofs.HeldMesh.{Held-open, held-open, points-long, tets-long, qualities-long}
 use Rattle.bench.proofs.ReplaceAnswers.{open-lists, replace-refused, replace-done}
 use Rattle.bench.proofs.replace.replace_cavity.Statement.{statement}

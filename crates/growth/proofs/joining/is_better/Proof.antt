@@ -1,11 +1,11 @@
 -- `growth::joining::is_better` meets its contract. Assumes nothing.
 use mathlib.Core.Path.{refl}
-use Rattle.growth.specs.Grow.{better}
+use Rattle.bench_rules.specs.Bench.{preferred}
 use Rattle.growth.proofs.joining.is_better.Statement.{statement}
 use Rattle.growth.proofs.joining.is_better.Tie as tie
 
 returns : tie.Need-returns
-unfolding better
+unfolding preferred
 returns c = refl
 
 pub is-better-spec : {M : Type 1} → statement M

@@ -3,26 +3,26 @@ use mathlib.Core.Logic.{⊎-elim}
 use Prim.Native.Nat.{_≤_, _-_}
 use native.Mathlib.Omega.{arith}
 use Rattle.bench_rules.specs.Bench.{mesh-fours}
-use Rattle.bench_rules.specs.Marks.{marked}
+use Rattle.bench_rules.specs.inner.Marks.{marked}
 use Rattle.growth.proofs.Meeting.{Best-so-far, best-none, best-new, best-old, best-all}
 use Rattle.growth.proofs.joining.joining.Statement.{statement}
 use Rattle.growth.proofs.joining.joining.Tie as tie
 
 abbrev Inv-loop : tie.InvT-loop
-Inv-loop tets qualities around in-points n best₀ most₀ q₀ best most q = (q ≤ n) × Best-so-far (mesh-fours tets) qualities (marked 0 in-points) (marked 0 around) n q best most
+Inv-loop tets qualities neighbours in-points n best₀ most₀ q₀ best most q = (q ≤ n) × Best-so-far (mesh-fours tets) qualities (marked 0 in-points) (marked 0 neighbours) n q best most
 
 abbrev μ-loop : tie.MeasureT-loop
-μ-loop tets qualities around in-points n best₀ most₀ q₀ best most q = n - q
+μ-loop tets qualities neighbours in-points n best₀ most₀ q₀ best most q = n - q
 
 met-at-requires : tie.Need-met-at-requires Inv-loop μ-loop
-met-at-requires c κs = (c .before .before .before .before .pre .0, omega arith)
+met-at-requires c κs = c .before .before .before .before .pre
 
 loop-holds : tie.Need-loop-holds Inv-loop μ-loop
 loop-holds c =
-    let s = c .before .before .before .before .before .args in (omega arith, best-none (mesh-fours (s .tets .now)) (s .qualities .now) (marked 0 (s .in-points .now)) (marked 0 (s .around .now)) (s .n) (c .met-at .ensures))
+    let s = c .before .before .before .before .before .args in (omega arith, best-none (mesh-fours (s .tets .now)) (s .qualities .now) (marked 0 (s .in-points .now)) (marked 0 (s .neighbours .now)) (s .n) (c .met-at .ensures))
 
 met-at-requires-2 : tie.Need-met-at-requires-2 Inv-loop μ-loop
-met-at-requires-2 c κs = (c .before .before .before .before .before .before .before .pre .0, omega arith)
+met-at-requires-2 c κs = c .before .before .before .before .before .before .before .pre
 
 is-better-requires : tie.Need-is-better-requires Inv-loop μ-loop
 is-better-requires c κs = tt
@@ -41,14 +41,14 @@ loop-again c =
     let e = c .before .is-better .ensures in (
       omega arith,
       ⊎-elim
-          (λ w. best-new (mesh-fours (s .tets .now)) (s .qualities .now) (marked 0 (s .in-points .now)) (marked 0 (s .around .now)) (s .n) (l .q) (l .best) (omega arith) m (l .inv .1) e (w .0 .taken) (w .1) (w .2))
-          (λ w. best-old (mesh-fours (s .tets .now)) (s .qualities .now) (marked 0 (s .in-points .now)) (marked 0 (s .around .now)) (s .n) (l .q) (l .best) (omega arith) m (l .inv .1) e (w .0 .left) (w .1) (w .2))
+          (λ w. best-new (mesh-fours (s .tets .now)) (s .qualities .now) (marked 0 (s .in-points .now)) (marked 0 (s .neighbours .now)) (s .n) (l .q) (l .best) (omega arith) m (l .inv .1) e (w .0 .taken) (w .1) (w .2))
+          (λ w. best-old (mesh-fours (s .tets .now)) (s .qualities .now) (marked 0 (s .in-points .now)) (marked 0 (s .neighbours .now)) (s .n) (l .q) (l .best) (omega arith) m (l .inv .1) e (w .0 .left) (w .1) (w .2))
           (c .if1 .came),
     )
 
 returns : tie.Need-returns Inv-loop μ-loop
 returns c =
-    let s = c .before .before .before .before .before .before .before .args in best-all (mesh-fours (s .tets .now)) (s .qualities .now) (marked 0 (s .in-points .now)) (marked 0 (s .around .now)) (s .n) (c .before .loop .q) (c .before .loop .best) (omega arith) (c .before .loop .inv .1)
+    let s = c .before .before .before .before .before .before .before .args in best-all (mesh-fours (s .tets .now)) (s .qualities .now) (marked 0 (s .in-points .now)) (marked 0 (s .neighbours .now)) (s .n) (c .before .loop .q) (c .before .loop .best) (omega arith) (c .before .loop .inv .1)
 
 pub joining-spec : {M : Type 1} → statement M
 joining-spec =

@@ -4,7 +4,6 @@ use mathlib.Core.Logic.{⊎-elim}
 use Prim.Native.Nat.{_≤_, _-_, _/_}
 use native.Mathlib.Omega.{arith}
 use lib.ListN.{length}
-use Rattle.bench_rules.proofs.MeshFours.{corners-below-is}
 use Rattle.growth.proofs.Marking.{Marks-to, marks-to-none, marks-to-more, marks-to-same}
 use Rattle.growth.proofs.Spanning.{is-spanned, spanned-at, spanned-all}
 use Rattle.growth.proofs.span.spanned.Statement.{statement}
@@ -22,10 +21,8 @@ loop-holds c = let s = c .before .before .args in (omega arith, refl, marks-to-n
 four-at-requires : tie.Need-four-at-requires Inv-loop μ-loop
 four-at-requires c κs = omega arith
 
-corners-marked-requires : tie.Need-corners-marked-requires Inv-loop μ-loop
-corners-marked-requires c κs =
-    let s = c .before .before .before .before .before in
-    corners-below-is (s .args .tets .now) (c .before .before .loop .i) (s .pre .1) (omega arith) (s .pre .2) (c .four-at .ensures)
+has-corners-in-requires : tie.Need-has-corners-in-requires Inv-loop μ-loop
+has-corners-in-requires c κs = tt
 
 array-write-mark : tie.Need-array-write-mark Inv-loop μ-loop
 array-write-mark c = omega arith
@@ -40,7 +37,7 @@ loop-again : tie.Need-loop-again Inv-loop μ-loop
 loop-again c =
     let s = c .before .before .before .before .before .before .before .args in
     let l = c .before .before .before .before .loop in
-    let e = spanned-at (s .in-points .now) (s .tets .now) (l .i) (omega arith) (c .before .before .four-at .ensures) (c .before .corners-marked .ensures) in
+    let e = spanned-at (s .in-points .now) (s .tets .now) (l .i) (omega arith) (c .before .before .four-at .ensures) (c .before .has-corners-in .ensures) in
     (omega arith, omega arith, ⊎-elim (λ w. marks-to-more e (l .inv .2) (omega arith) (w .0 .taken) (w .1)) (λ w. marks-to-same e (l .inv .2) (w .0 .left) (w .1)) (c .if1 .came))
 
 returns : tie.Need-returns Inv-loop μ-loop
@@ -55,7 +52,7 @@ spanned-spec =
     μ-loop
     loop-holds
     four-at-requires
-    corners-marked-requires
+    has-corners-in-requires
     array-write-mark
     add-i
     loop-less

@@ -20,7 +20,7 @@ loop-holds : tie.Need-loop-holds Inv-loop μ-loop
 loop-holds c = let s = c .before .args in (omega arith, marks-to-none 64 (is-with (s .in-points .now) (s .p)))
 
 is-marked-requires : tie.Need-is-marked-requires Inv-loop μ-loop
-is-marked-requires c κs = omega arith
+is-marked-requires c κs = tt
 
 array-write-mark : tie.Need-array-write-mark Inv-loop μ-loop
 array-write-mark c = omega arith

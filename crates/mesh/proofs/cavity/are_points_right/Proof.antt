@@ -6,8 +6,8 @@ use lib.Dec.{ltb}
 use lib.ListN.{length}
 use Rattle.laws.proofs.Basics.Passes.{fails, passes}
 use Rattle.bench_rules.specs.Bench.{mesh-fours, same-numbers, points-of}
-use Rattle.bench_rules.specs.Marks.{marked}
-use Rattle.mesh.proofs.CavityTests.{points-left, points-start, points-test, points-end, alike-is}
+use Rattle.bench_rules.specs.inner.Marks.{marked}
+use Rattle.mesh.proofs.CavityTests.{points-left, points-start, points-test, points-alike, points-end}
 use native.Mathlib.Omega.{arith}
 use Rattle.mesh.proofs.cavity.are_points_right.Statement.{statement}
 use Rattle.mesh.proofs.cavity.are_points_right.Tie as tie
@@ -35,7 +35,7 @@ returns c =
     let s = c .before .before .before .before .before .before .before .before .before .args in
     let l = c .before .before .before .before .before .loop in
     fails (l .inv .2) (points-test (s .n) (s .tets .now) (s .in-cavity .now) (s .in-points .now) (l .p) (omega arith))
-    (alike-is (c .before .is-alike .ensures) (c .before .before .is-marked .ensures) (ap (_&&_ (ltb (l .p) (s .n))) (c .before .before .before .is-corner-inside .ensures))) (c .if1 .taken)
+    (points-alike (s .n) (s .tets .now) (s .in-cavity .now) (s .in-points .now) (l .p) (c .before .is-alike .ensures) (c .before .before .is-marked .ensures) (ap (_&&_ (ltb (l .p) (s .n))) (c .before .before .before .is-corner-inside .ensures))) (c .if1 .taken)
 
 add-p : tie.Need-add-p Inv-loop μ-loop
 add-p c = omega arith
@@ -47,7 +47,7 @@ loop-again : tie.Need-loop-again Inv-loop μ-loop
 loop-again c =
     let s = c .before .before .before .before .before .before .before .before .before .args in
     let l = c .before .before .before .before .before .loop in
-    (omega arith, refl, passes (l .inv .2) (points-test (s .n) (s .tets .now) (s .in-cavity .now) (s .in-points .now) (l .p) (omega arith)) (alike-is (c .before .is-alike .ensures) (c .before .before .is-marked .ensures) (ap (_&&_ (ltb (l .p) (s .n))) (c .before .before .before .is-corner-inside .ensures))) (c .if1 .left))
+    (omega arith, refl, passes (l .inv .2) (points-test (s .n) (s .tets .now) (s .in-cavity .now) (s .in-points .now) (l .p) (omega arith)) (points-alike (s .n) (s .tets .now) (s .in-cavity .now) (s .in-points .now) (l .p) (c .before .is-alike .ensures) (c .before .before .is-marked .ensures) (ap (_&&_ (ltb (l .p) (s .n))) (c .before .before .before .is-corner-inside .ensures))) (c .if1 .left))
 
 returns-2 : tie.Need-returns-2 Inv-loop μ-loop
 returns-2 c = let s = c .before .before .before .before .before .args in sym (c .before .loop .inv .2 ∙ points-end (s .n) (s .tets .now) (s .in-cavity .now) (s .in-points .now) (c .before .loop .p) (omega arith))

@@ -4,8 +4,8 @@ use Prim.Native.Nat.{_≤_, _-_}
 use lib.ListN.{length}
 use Rattle.laws.proofs.Basics.Passes.{fails, passes}
 use Rattle.bench_rules.specs.Bench.{mesh-fours, same-numbers, tets-in}
-use Rattle.bench_rules.specs.Marks.{marked}
-use Rattle.mesh.proofs.CavityTests.{tets-left, tets-start, tets-test, tets-end, alike-is}
+use Rattle.bench_rules.specs.inner.Marks.{marked}
+use Rattle.mesh.proofs.CavityTests.{tets-left, tets-start, tets-test, tets-alike, tets-end}
 use native.Mathlib.Omega.{arith}
 use Rattle.mesh.proofs.cavity.are_tets_right.Statement.{statement}
 use Rattle.mesh.proofs.cavity.are_tets_right.Tie as tie
@@ -33,7 +33,7 @@ returns c =
     let s = c .before .before .before .before .before .before .before .before .before .args in
     let l = c .before .before .before .before .before .loop in
     fails (l .inv .2) (tets-test (s .tets .now) (s .in-cavity .now) (s .in-points .now) (l .i) (omega arith))
-    (alike-is (c .before .is-alike .ensures) (c .before .before .before .is-marked .ensures) (c .before .before .is-spanned .ensures)) (c .if1 .taken)
+    (tets-alike (s .tets .now) (s .in-cavity .now) (s .in-points .now) (l .i) (c .before .is-alike .ensures) (c .before .before .before .is-marked .ensures) (c .before .before .is-spanned .ensures)) (c .if1 .taken)
 
 add-i : tie.Need-add-i Inv-loop μ-loop
 add-i c = omega arith
@@ -45,7 +45,7 @@ loop-again : tie.Need-loop-again Inv-loop μ-loop
 loop-again c =
     let s = c .before .before .before .before .before .before .before .before .before .args in
     let l = c .before .before .before .before .before .loop in
-    (omega arith, refl, passes (l .inv .2) (tets-test (s .tets .now) (s .in-cavity .now) (s .in-points .now) (l .i) (omega arith)) (alike-is (c .before .is-alike .ensures) (c .before .before .before .is-marked .ensures) (c .before .before .is-spanned .ensures)) (c .if1 .left))
+    (omega arith, refl, passes (l .inv .2) (tets-test (s .tets .now) (s .in-cavity .now) (s .in-points .now) (l .i) (omega arith)) (tets-alike (s .tets .now) (s .in-cavity .now) (s .in-points .now) (l .i) (c .before .is-alike .ensures) (c .before .before .before .is-marked .ensures) (c .before .before .is-spanned .ensures)) (c .if1 .left))
 
 returns-2 : tie.Need-returns-2 Inv-loop μ-loop
 returns-2 c = let s = c .before .before .before .before .before .args in sym (c .before .loop .inv .2 ∙ tets-end (s .tets .now) (s .in-cavity .now) (s .in-points .now) (c .before .loop .i) (omega arith))

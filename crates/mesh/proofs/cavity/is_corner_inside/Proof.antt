@@ -4,7 +4,7 @@ use Prim.Native.Nat.{_≤_, _-_, _/_}
 use lib.ListN.{length}
 use Rattle.laws.proofs.Basics.Scan.{hit, miss}
 use Rattle.bench_rules.specs.Bench.{mesh-fours, corner-of-any}
-use Rattle.bench_rules.specs.Marks.{marked}
+use Rattle.bench_rules.specs.inner.Marks.{marked}
 use Rattle.mesh.proofs.MarkTests.{corner-left, corner-start, corner-step, corner-end}
 use native.Mathlib.Omega.{arith}
 use Rattle.mesh.proofs.cavity.is_corner_inside.Statement.{statement}
@@ -20,7 +20,7 @@ loop-holds : tie.Need-loop-holds Inv-loop μ-loop
 loop-holds c = (omega arith, refl, corner-start (c .before .before .args .tets .now) (c .before .before .args .in-cavity .now) (c .before .before .args .p))
 
 has-corner-at-requires : tie.Need-has-corner-at-requires Inv-loop μ-loop
-has-corner-at-requires c κs = (omega arith, omega (arith, c .before .before .before .before .pre .0))
+has-corner-at-requires c κs = omega arith
 
 returns : tie.Need-returns Inv-loop μ-loop
 returns c =

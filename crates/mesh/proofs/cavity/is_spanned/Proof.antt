@@ -1,5 +1,5 @@
 -- `mesh::cavity::is_spanned` meets its contract. Assumes nothing.
-use Rattle.bench_rules.specs.Marks.{marked}
+use Rattle.bench_rules.specs.inner.Marks.{marked}
 use Rattle.mesh.proofs.MarkTests.{spanned-within, spanned-behind}
 use borrow.Author.Needs.{needs}
 use Rattle.mesh.proofs.cavity.is_spanned.Statement.{statement}

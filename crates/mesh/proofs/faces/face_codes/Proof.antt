@@ -4,9 +4,10 @@ use mathlib.Core.Path.{_≡_, refl}
 use Prim.Native.Nat.{_≤_, _-_, _/_}
 use lib.ListN.{length}
 use Rattle.geometry.specs.Space.{points-in}
-use Rattle.bench_rules.specs.Marks.{entries}
-use Rattle.bench_rules.proofs.MeshFours.{present-at}
-use Rattle.mesh.proofs.FaceNumbers.{oriented-small, codes-in, codes-none, codes-put, codes-all}
+use Rattle.bench_rules.specs.inner.Marks.{entries}
+use Rattle.bench_rules.proofs.Mesh.Fours.{present-at}
+use Rattle.mesh.proofs.MeshFaces.{oriented-small}
+use Rattle.mesh.proofs.FaceNumbers.{codes-in, codes-none, codes-put, codes-all}
 use native.Mathlib.Omega.{arith}
 use Rattle.mesh.proofs.faces.face_codes.Statement.{statement}
 use Rattle.mesh.proofs.faces.face_codes.Tie as tie

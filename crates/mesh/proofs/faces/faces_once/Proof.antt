@@ -7,7 +7,7 @@ use Rattle.geometry.specs.Space.{points-in}
 use Rattle.laws.specs.Laws.{all-faces, once}
 use Rattle.laws.proofs.Basics.Passes.{fails, passes}
 use Rattle.bench_rules.specs.Bench.{mesh-fours}
-use Rattle.mesh.specs.Codes.{all-different}
+use Rattle.mesh.specs.inner.Codes.{all-different}
 use Rattle.mesh.proofs.FaceNumbers.{once-by-numbers, numbers-long}
 use Rattle.mesh.proofs.Repeats.{different-test, different-end}
 use native.Mathlib.Omega.{arith}

@@ -11,7 +11,7 @@ use Rattle.geometry.specs.Measure.{four-quality}
 use Rattle.laws.specs.inner.ListedFours.{fours-from}
 use Rattle.laws.proofs.Basics.Passes.{fails, passes}
 use Rattle.bench_rules.specs.Bench.{mesh-qualities, same-numbers}
-use Rattle.bench_rules.proofs.MeshFours.{present-at}
+use Rattle.bench_rules.proofs.Mesh.Fours.{present-at}
 use Rattle.mesh.proofs.Measured.{measured-start, measured-test, measured-end, measured-length}
 use native.Mathlib.Omega.{arith}
 use Rattle.mesh.proofs.qualities.are_measured.Statement.{statement}

@@ -5,8 +5,8 @@ use Prim.Native.Nat.{_≤_, _-_, _/_}
 use lib.ListN.{length}
 use Rattle.geometry.specs.Space.{points-in}
 use Rattle.geometry.specs.Measure.{four-quality}
-use Rattle.bench_rules.specs.Marks.{entries}
-use Rattle.bench_rules.proofs.MeshFours.{present-at}
+use Rattle.bench_rules.specs.inner.Marks.{entries}
+use Rattle.bench_rules.proofs.Mesh.Fours.{present-at}
 use Rattle.mesh.proofs.Measured.{qualities-in, qualities-none, qualities-put, qualities-all}
 use native.Mathlib.Omega.{arith}
 use Rattle.mesh.proofs.qualities.qualities_of.Statement.{statement}

@@ -6,7 +6,7 @@ use Rattle.geometry.specs.Space.{points-in}
 use Rattle.laws.specs.inner.ListedFours.{fours-from}
 use Rattle.laws.proofs.Basics.Scan.{hit, miss}
 use Rattle.bench_rules.specs.Bench.{mesh-fours, tet-bad, any-tet-bad}
-use Rattle.bench_rules.proofs.MeshFours.{mesh-start}
+use Rattle.bench_rules.proofs.Mesh.Fours.{mesh-start}
 use Rattle.mesh.proofs.Refusing.{bad-step, bad-end}
 use native.Mathlib.Omega.{arith}
 use Rattle.mesh.proofs.refusal.any_tet_bad.Statement.{statement}

@@ -7,8 +7,8 @@ use borrow.Author.Tests.{not-false}
 use lib.IntN.{ℤ}
 use Rattle.geometry.specs.Range.{any-far}
 use Rattle.laws.proofs.Checker.Chain.{stop, pass}
+use Rattle.laws.specs.Check.{points-right}
 use Rattle.bench_rules.specs.Bench.{mesh-refusal}
-use Rattle.mesh.specs.Sizes.{points-right}
 use Rattle.mesh.proofs.Refusing.{from-3, from-4, from-17, from-18, from-19, at-2, at-3, at-4, at-17, at-18, at-19, few-points, sound-mesh}
 use Rattle.mesh.proofs.refusal.mesh_refusal.Statement.{statement}
 use Rattle.mesh.proofs.refusal.mesh_refusal.Tie as tie
@@ -49,7 +49,7 @@ passed-18 : (c : tie.Else5) → Left from-19 (start-18 c)
 passed-18 c = pass (passed-17 (c .before .before)) (at-18 (start-18 c .args .points .now) (start-18 c .args .tets .now)) (c .before .any-tet-bad .ensures) (c .if5 .left)
 
 -- what the first tests tell the later ones
-sized : (c : tie.Else1) → points-right (start-2 c .args .points .now) ≡ true
+sized : (c : tie.Else1) → points-right 64 (start-2 c .args .points .now) ≡ true
 sized c = sym (c .before .points-fit .ensures) ∙ not-false (c .before .points-fit .result) (c .if1 .left)
 
 near : (c : tie.Else2) → any-far (start-3 c .args .points .now) ≡ false

@@ -36,8 +36,8 @@ returns-3 c =
     let s = c .before .before .before .before .before .before .before .before .before .args in
     λ k. closed-holds (s .points .now) (s .tets .now) (s .qualities .now) (s .is-open) (s .in-cavity .now) (s .in-points .now) k (accepted (c .before .before .before)) (measured (c .before)) (c .if3 .taken)
 
-is-cavity-right-requires : tie.Need-is-cavity-right-requires
-is-cavity-right-requires c κs =
+is-cavity-good-requires : tie.Need-is-cavity-good-requires
+is-cavity-good-requires c κs =
     let s = c .before .before .before .before .before .before .before .before .before in
     let m = accepted-sound (s .args .points .now) (s .args .tets .now) (accepted (c .before .before .before)) in
     (accepted-few (s .args .points .now) (s .args .tets .now) (accepted (c .before .before .before)), m .tets-few, s .pre .0, s .pre .1)
@@ -46,13 +46,13 @@ returns-4 : tie.Need-returns-4
 returns-4 c =
     let s = c .before .before .before .before .before .before .before .before .before .before .before .args in
     λ k. open-holds (s .points .now) (s .tets .now) (s .qualities .now) (s .is-open) (s .in-cavity .now) (s .in-points .now) k (accepted (c .before .before .before .before .before)) (measured (c .before .before .before)) (c .before .before .if3 .left)
-    (sym (c .before .is-cavity-right .ensures) ∙ c .if4 .taken)
+    (c .before .is-cavity-good .ensures) (c .if4 .taken)
 
 returns-5 : tie.Need-returns-5
 returns-5 c =
     let s = c .before .before .before .before .before .before .before .before .before .before .before .args in
     λ k. wrong-holds (s .points .now) (s .tets .now) (s .qualities .now) (s .is-open) (s .in-cavity .now) (s .in-points .now) k (accepted (c .before .before .before .before .before)) (measured (c .before .before .before)) (c .before .before .if3 .left)
-    (sym (c .before .is-cavity-right .ensures) ∙ c .if4 .left)
+    (c .before .is-cavity-good .ensures) (c .if4 .left)
 
 pub state-of-spec : {M : Type 1} → statement M
 state-of-spec =
@@ -63,6 +63,6 @@ state-of-spec =
     are-measured-requires
     returns-2
     returns-3
-    is-cavity-right-requires
+    is-cavity-good-requires
     returns-4
     returns-5)

@@ -1,10 +1,9 @@
 -- `refill::filling::search_measured` meets its contract. Assumes nothing.
-use native.Mathlib.Omega.{arith}
 use borrow.Author.Needs.{needs}
 use lib.IntN.{pos}
-use Rattle.bench_rules.proofs.Entries.{array-room, array-counted}
-use Rattle.refill.proofs.CavityArrays.{table-held}
-use Rattle.refill.proofs.BestFilling.{table-searched}
+use Rattle.bench_rules.proofs.Marks.Entries.{array-room, array-counted}
+use Rattle.cavity_job.proofs.CavityLists.CavityArrays.{table-held}
+use Rattle.refill.proofs.Replacing.BestFilling.{table-searched}
 use Rattle.refill.proofs.filling.search_measured.Statement.{statement}
 use Rattle.refill.proofs.filling.search_measured.Tie as tie
 
@@ -37,7 +36,7 @@ returns : tie.Need-returns
 returns c =
     let s = c .before .before .before .before .before .before .before .before in
     let t = table-held (s .args .points .now) (s .pre .1) (c .before .before .before .before .before .before .table-of .ensures) in
-    table-searched (s .args .points .now) (s .args .triangles .now) (c .before .search .result) _ _ t (omega arith) (c .before .search .ensures)
+    table-searched (s .args .points .now) (s .args .triangles .now) (c .before .search .result) _ t (c .before .search .ensures)
 
 pub search-measured-spec : {M : Type 1} → statement M
 search-measured-spec =

@@ -5,9 +5,9 @@ use Prim.Native.Nat.{_-_, _*_, _≤_}
 use native.Mathlib.Omega.{arith}
 use borrow.Author.Needs.{needs}
 use lib.ListN.{length, take}
-use Rattle.bench_rules.specs.Marks.{entries}
-use Rattle.refill.specs.Refill.{tets-of}
-use Rattle.refill.proofs.JoinedLists.{tets-length, first-alone, byte-written, all-joined}
+use Rattle.bench_rules.specs.inner.Marks.{entries}
+use Rattle.refill.specs.inner.Refill.{tets-of}
+use Rattle.refill.proofs.Replacing.JoinedLists.{tets-length, first-alone, byte-written, all-joined}
 use Rattle.refill.proofs.joined.appended.Statement.{statement}
 use Rattle.refill.proofs.joined.appended.Tie as tie
 

@@ -1,11 +1,12 @@
 -- `refill::joined::renamed` meets its contract. The loop's invariant: the first i bytes stand in front with the mesh's numbers. Assumes nothing.
-use mathlib.Core.Path.{_≡_, refl}
+use mathlib.Core.Path.{_≡_}
 use Prim.Native.Nat.{_-_, _*_, _≤_}
 use native.Mathlib.Omega.{arith}
 use borrow.Author.Needs.{needs}
 use lib.ListN.{take}
-use Rattle.bench_rules.specs.Marks.{entries}
-use Rattle.refill.proofs.JoinedLists.{numbered, none-written, number-written, all-written}
+use Rattle.bench_rules.specs.inner.Marks.{entries}
+use Rattle.refill.proofs.Replacing.TetLists.{renamed-held}
+use Rattle.refill.proofs.Replacing.JoinedLists.{numbered, none-written, number-written, all-written}
 use Rattle.refill.proofs.joined.renamed.Statement.{statement}
 use Rattle.refill.proofs.joined.renamed.Tie as tie
 
@@ -46,7 +47,8 @@ loop-again c =
 returns : tie.Need-returns Inv-loop μ-loop
 returns c =
     let a = c .before .before .before .before .args in
-    (all-written (a .numbers .now) (a .filling .now) (a .m) {i = c .before .loop .i} (c .before .before .before .before .pre .1) (omega arith) (c .before .loop .inv .1), refl)
+    renamed-held (a .numbers .now) (a .filling .now) (a .m) (omega arith)
+    (all-written (a .numbers .now) (a .filling .now) (a .m) {i = c .before .loop .i} (c .before .before .before .before .pre .1) (omega arith) (c .before .loop .inv .1))
 
 pub renamed-spec : {M : Type 1} → statement M
 renamed-spec =

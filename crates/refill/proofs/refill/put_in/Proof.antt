@@ -2,9 +2,9 @@
 use mathlib.Core.Path.{_∙_, sym}
 use native.Mathlib.Omega.{arith}
 use borrow.Author.Needs.{needs}
-use Rattle.refill.specs.Refill.{tets-of}
-use Rattle.refill.proofs.JoinedLists.{laid-length, tets-length}
-use Rattle.refill.proofs.PutIn.{not-single, single}
+use Rattle.refill.specs.inner.Refill.{tets-of}
+use Rattle.refill.proofs.Replacing.JoinedLists.{stored-length, tets-length}
+use Rattle.refill.proofs.Replacing.PutIn.{not-single, single}
 use Rattle.refill.proofs.refill.put_in.Statement.{statement}
 use Rattle.refill.proofs.refill.put_in.Tie as tie
 
@@ -14,17 +14,17 @@ mul-k c = search needs
 array-share-prefix-tets : tie.Need-array-share-prefix-tets
 array-share-prefix-tets c =
     let s = c .before .before in
-    let l = laid-length (s .args .new) (s .pre .0) in
+    let l = stored-length (s .args .new) (s .pre .0) in
     let f = s .pre .0 .few in omega arith
 
-slice-aggregate-faces-once : tie.Need-slice-aggregate-faces-once
+slice-aggregate-faces-refusal : tie.Need-slice-aggregate-faces-refusal
 unfolding tets-of
-slice-aggregate-faces-once c =
+slice-aggregate-faces-refusal c =
     let s = c .before .before .before in sym (tets-length (s .args .new) (s .pre .0))
 
-faces-once-requires : tie.Need-faces-once-requires
+faces-refusal-requires : tie.Need-faces-refusal-requires
 unfolding tets-of
-faces-once-requires c κs = c .before .before .before .pre .1
+faces-refusal-requires c κs = c .before .before .before .pre .1
 
 refused-requires : tie.Need-refused-requires
 refused-requires c κs = search needs
@@ -33,12 +33,12 @@ returns : tie.Need-returns
 unfolding tets-of
 returns c =
     let s = c .before .before .before .before .before .before in
-    c .refused .ensures ∙ not-single (s .args .points .now) (tets-of (s .args .new)) (s .pre .1) (c .before .if1 .taken) (c .before .before .faces-once .ensures)
+    c .refused .ensures ∙ not-single (s .args .points .now) (tets-of (s .args .new)) (s .pre .1) (c .before .before .faces-refusal .ensures) (c .before .if1 .taken)
 
 array-share-prefix-tets-2 : tie.Need-array-share-prefix-tets-2
 array-share-prefix-tets-2 c =
     let s = c .before .before .before .before .before in
-    let l = laid-length (s .args .new) (s .pre .0) in
+    let l = stored-length (s .args .new) (s .pre .0) in
     let f = s .pre .0 .few in omega arith
 
 slice-aggregate-qualities-of : tie.Need-slice-aggregate-qualities-of
@@ -58,7 +58,7 @@ unfolding tets-of
 returns-2 c =
     let s = c .before .before .before .before .before .before .before .before .before in
     let l = tets-length (s .args .new) (s .pre .0) in
-    single (s .args .points .now) (tets-of (s .args .new)) (s .pre .1) (c .before .before .before .before .if1 .left) (c .before .before .before .before .before .faces-once .ensures) (omega arith) (s .pre .0 .behind) (c .before .before .qualities-of .ensures)
+    single (s .args .points .now) (tets-of (s .args .new)) (s .pre .1) (c .before .before .before .before .before .faces-refusal .ensures) (c .before .before .before .before .if1 .left) (omega arith) (s .pre .0 .behind) (c .before .before .qualities-of .ensures)
 
 pub put-in-spec : {M : Type 1} → statement M
 put-in-spec =
@@ -66,8 +66,8 @@ put-in-spec =
     (tie.spec
     mul-k
     array-share-prefix-tets
-    slice-aggregate-faces-once
-    faces-once-requires
+    slice-aggregate-faces-refusal
+    faces-refusal-requires
     refused-requires
     returns
     array-share-prefix-tets-2

@@ -4,12 +4,12 @@ use Prim.Native.Nat.{ℕ}
 use native.Mathlib.Omega.{arith}
 use borrow.Author.Needs.{needs, length-unmapped}
 use Rattle.laws.proofs.Choice.Conditions.{keeps}
-use Rattle.bench_rules.proofs.Entries.{array-room, array-counted}
-use Rattle.refill.proofs.OpenCavity.{tets-few}
-use Rattle.refill.proofs.CavityArrays.{points-held}
-use Rattle.refill.proofs.TetLists.{holds-laid}
-use Rattle.refill.proofs.NewList.{rest-held, new-held, new-list-sound}
-use Rattle.refill.proofs.Refilling.{found-best, none-found, no-better, too-many-new, new-mesh}
+use Rattle.bench_rules.proofs.Marks.Entries.{array-room, array-counted}
+use Rattle.cavity_job.proofs.CavityLists.OpenCavity.{tets-few}
+use Rattle.cavity_job.proofs.CavityLists.CavityArrays.{points-held}
+use Rattle.refill.proofs.Replacing.TetLists.{holds-stored}
+use Rattle.refill.proofs.Replacing.NewList.{new-held, new-list-sound}
+use Rattle.refill.proofs.Replacing.Refilling.{found-best, none-found, no-better, too-many-new, new-mesh}
 use Rattle.refill.proofs.refill.refill.Statement.{statement}
 use Rattle.refill.proofs.refill.refill.Tie as tie
 
@@ -51,9 +51,8 @@ add-if3 : tie.Need-add-if3
 add-if3 c =
     let s = c .before .before .before .before .before .before .before .before .before .before .before .before .before in
     let o = c .before .before .outside-of in
-    let h = rest-held (s .pre) (o .ensures) in
-    let n = h .count in
-    let l = h .few in search needs
+    let n = o .ensures .count in
+    let l = o .ensures .few in search needs
 
 refused-requires-3 : tie.Need-refused-requires-3
 refused-requires-3 c κs = search needs
@@ -65,7 +64,7 @@ returns-3 c =
     let w = c .before .before .before .before .before .before .before .worst-inside in
     let o = c .before .before .before .before .outside-of in
     let g = found-best (s .pre) (f .ensures) (c .before .before .before .before .before .before .before .before .if1 .left) in
-    too-many-new (s .pre) (f .ensures) g (w .ensures) (omega arith) (rest-held (s .pre) (o .ensures)) (c .before .if3 .taken) (c .refused3 .ensures)
+    too-many-new (s .pre) (f .ensures) g (w .ensures) (omega arith) (o .ensures) (omega arith) (c .refused3 .ensures)
 
 slice-aggregate-joined : tie.Need-slice-aggregate-joined
 slice-aggregate-joined c =
@@ -90,7 +89,7 @@ joined-requires c κs =
     let f = c .before .before .before .before .before .before .before .before .before .before .before .before .before .best-filling in
     let o = c .before .before .before .before .before .before .before .outside-of in
     let l = length-unmapped ℕ (f .result .corner) 7280 (f .ok .1 .1 .1 .1 .1 .0 .1 .0 .1) in
-    let q = c .before .before .before .before .if3 .left in (holds-laid (rest-held (s .pre) (o .ensures)), omega arith, omega arith)
+    let q = c .before .before .before .before .if3 .left in (holds-stored (o .ensures), omega arith, omega arith)
 
 put-in-requires : tie.Need-put-in-requires
 put-in-requires c κs =
@@ -100,8 +99,8 @@ put-in-requires c κs =
     let j = c .joined in
     let g = found-best (s .pre) (f .ensures) (c .before .before .before .before .before .before .before .before .before .before .before .before .if1 .left) in
     let q = c .before .before .before .before .before .if3 .left in
-    let h = new-held (s .pre) (f .result .corner) (g .fours) (rest-held (s .pre) (o .ensures)) (points-held (s .pre) (f .ensures .point) (f .ensures .point-count)) (g .corners) (g .count) (omega arith) (j .ensures) in
-    (holds-laid h, new-list-sound (s .pre) (g .fours) (keeps _ (g .fours) (g .best .keeps)) h)
+    let h = new-held (s .pre) (f .result .count) (f .result .corner) (g .fours) (points-held (s .pre) (f .ensures .point) (f .ensures .point-count)) (g .corners) (j .ensures _ (o .ensures)) in
+    (holds-stored h, new-list-sound (s .pre) (g .fours) (keeps _ (g .fours) (g .best .keeps)) h)
 
 returns-4 : tie.Need-returns-4
 returns-4 c =
@@ -113,7 +112,7 @@ returns-4 c =
     let g = found-best (s .pre) (f .ensures) (c .before .before .before .before .before .before .before .before .before .before .before .before .before .if1 .left) in
     let v = c .before .before .before .before .before .before .before .before .before .before .if2 .left in
     let q = c .before .before .before .before .before .before .if3 .left in
-    new-mesh (s .pre) (f .ensures) g (w .ensures) (omega arith) (new-held (s .pre) (f .result .corner) (g .fours) (rest-held (s .pre) (o .ensures)) (points-held (s .pre) (f .ensures .point) (f .ensures .point-count)) (g .corners) (g .count) (omega arith) (j .ensures)) (c .put-in .ensures)
+    new-mesh (s .pre) (f .ensures) g (w .ensures) (omega arith) (new-held (s .pre) (f .result .count) (f .result .corner) (g .fours) (points-held (s .pre) (f .ensures .point) (f .ensures .point-count)) (g .corners) (j .ensures _ (o .ensures))) (c .put-in .ensures)
 
 pub refill-spec : {M : Type 1} → statement M
 refill-spec =

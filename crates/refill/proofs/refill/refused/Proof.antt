@@ -1,5 +1,5 @@
 -- `refill::refill::refused` meets its contract. Assumes nothing.
-use Rattle.refill.proofs.PutIn.{refused-is}
+use Rattle.refill.proofs.Replacing.PutIn.{refused-is}
 use Rattle.refill.proofs.refill.refused.Statement.{statement}
 use Rattle.refill.proofs.refill.refused.Tie as tie
 

@@ -5,7 +5,7 @@ use Prim.Native.Nat.{_-_, _≤_}
 use native.Mathlib.Omega.{arith}
 use borrow.Author.Needs.{needs}
 use lib.ListN.{length}
-use Rattle.refill.proofs.WorstInside.{worst-to, worst-none, worst-passed, worst-taken, worst-all}
+use Rattle.refill.proofs.Replacing.WorstInside.{worst-to, worst-none, worst-passed, worst-taken, worst-all}
 use Rattle.refill.proofs.worst.worst_inside.Statement.{statement}
 use Rattle.refill.proofs.worst.worst_inside.Tie as tie
 

@@ -1,0 +1,2 @@
+// What the lines of a bench session come to, counted and printed. Assumes nothing.
+pub mod tally;

@@ -1,0 +1,51 @@
+// Marks: an entry other than 0 marks its number. And corners: of a tetrahedron, of a marked one, and marked ones. Assumes nothing.
+use geometry::tetrahedron::Four;
+use judge::cover::has_corner;
+use judge::fours::four_at;
+ghost use mathlib.Core.Path.{_≡_};
+ghost use mathlib.Core.Bool.{_&&_};
+ghost use Prim.Native.Nat.{_/_, _<_};
+ghost use lib.ListN.{length};
+ghost use Rattle.laws.specs.Laws.{corner-of};
+ghost use Rattle.laws.specs.inner.ListedFours.{four-at};
+ghost use Rattle.bench_rules.specs.Bench.{member, corners-in};
+ghost use Rattle.bench_rules.specs.inner.Marks.{marked};
+
+// Whether the number i is marked; none is behind the last mark.
+pub fn is_marked(marks: &[u8], i: usize) -> bool
+    ensures { λ r. ⌜ r ≡ member i (marked 0 (now (marks .entry))) ⌝ }
+{
+    if i < marks.len() {
+        return marks[i] != 0;
+    }
+    false
+}
+
+// How many numbers are marked.
+pub fn count_marked(marks: &[u8]) -> usize
+    ensures { λ r. ⌜ r ≡ length (marked 0 (now (marks .entry))) ⌝ }
+{
+    let mut n: usize = 0;
+    for i in 0..marks.len() {
+        if marks[i] != 0 {
+            n += 1;
+        }
+    }
+    n
+}
+
+// Whether the i-th tetrahedron is marked and has the corner p.
+pub fn has_corner_at(tets: &[u8], marks: &[u8], p: usize, i: usize) -> bool
+    requires { ⌜ i < length (now tets) / 4 ⌝ }
+    ensures { λ r. ⌜ r ≡ (member i (marked 0 (now (marks .entry))) && corner-of p (four-at (now (tets .entry)) i)) ⌝ }
+{
+    is_marked(marks, i) & has_corner(four_at(tets, i), p)
+}
+
+// Whether the four corners of f are marked.
+pub fn has_corners_in(in_points: &[u8], f: Four) -> bool
+    ensures { λ r. ⌜ r ≡ corners-in (marked 0 (now («in_points» .entry))) f ⌝ }
+{
+    (is_marked(in_points, f.a) & is_marked(in_points, f.b))
+        & (is_marked(in_points, f.c) & is_marked(in_points, f.d))
+}
