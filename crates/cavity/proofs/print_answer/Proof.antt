@@ -1,0 +1,51 @@
+-- `cavity::print_answer` is safe and ends: what it writes is the front of its buffer. Assumes nothing.
+use native.Mathlib.Omega.{arith}
+use Rattle.answer.proofs.Prefixes.{front-long}
+use borrow.Author.Needs.{needs}
+use Rattle.cavity.proofs.print_answer.Statement.{statement}
+use Rattle.cavity.proofs.print_answer.Tie as tie
+
+output-buffer-requires : tie.Need-output-buffer-requires
+output-buffer-requires c κs = search needs
+
+slice-aggregate-print-text : tie.Need-slice-aggregate-print-text
+slice-aggregate-print-text c = search needs
+
+print-text-requires : tie.Need-print-text-requires
+print-text-requires c κs = search needs
+
+array-share-prefix-output : tie.Need-array-share-prefix-output
+array-share-prefix-output c = search needs
+
+slice-aggregate-write-output : tie.Need-slice-aggregate-write-output
+slice-aggregate-write-output c = front-long _ _ (omega arith)
+
+write-output-requires : tie.Need-write-output-requires
+write-output-requires c κs = search needs
+
+slice-aggregate-fail : tie.Need-slice-aggregate-fail
+slice-aggregate-fail c = search needs
+
+fail-requires : tie.Need-fail-requires
+fail-requires c κs = search needs
+
+returns : tie.Need-returns
+returns c = search needs
+
+returns-2 : tie.Need-returns-2
+returns-2 c = search needs
+
+pub print-answer-spec : {M : Type 1} → statement M
+print-answer-spec =
+    tie.close
+    (tie.spec
+    output-buffer-requires
+    slice-aggregate-print-text
+    print-text-requires
+    array-share-prefix-output
+    slice-aggregate-write-output
+    write-output-requires
+    slice-aggregate-fail
+    fail-requires
+    returns
+    returns-2)
