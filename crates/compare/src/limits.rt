@@ -3,10 +3,8 @@ use crate::tally::Tally;
 use crate::trial::is_answer;
 use crate::trial::trial;
 use checker::check::check_job;
-use enumerator::fours::after;
-use enumerator::fours::first;
-use enumerator::fours::how_many;
-use enumerator::fours::is_listed;
+use enumerator::fours::listed;
+use enumerator::fours::place_of;
 use enumerator::read::put_number;
 use enumerator::read::upto;
 use random_jobs::boundary::put_boundary;
@@ -146,12 +144,10 @@ fn limit(
     trial(0, points, triangles, kept, table, chosen, t)
 }
 
-// 1 for the fours of the list, 0 for the others.
+// 1 for the fours of the list; the others stay as they are.
 fn put_open(n: usize, list: &[u8], out: &mut [i32]) {
-    let mut f = first();
-    for k in 0..how_many(n) {
-        put_number(out, k, if is_listed(list, f) { 1 } else { 0 });
-        f = after(f, n);
+    for i in 0..list.len() / 4 {
+        put_number(out, place_of(n, listed(list, i)), 1);
     }
 }
 

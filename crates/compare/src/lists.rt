@@ -15,7 +15,6 @@ use enumerator::read::up;
 use enumerator::read::upto;
 use enumerator::rules::lowest_broken;
 use enumerator::rules::worst;
-use judge::judge::Verdict;
 use judge::judge::judge;
 use random_jobs::random::index;
 use random_jobs::random::nth;
@@ -33,8 +32,19 @@ const WAYS: usize = 12;
 // The most subsets that are judged.
 const SAMPLE: usize = 64;
 
-fn is_verdict(v: Verdict, law: u32, worst: u32) -> bool {
-    (v.number == 0) & (v.law == law) & (v.worst == worst)
+// Whether the judge says this of the list.
+pub fn is_verdict(
+    points: &[i32],
+    triangles: &[u8],
+    kept: &[u8],
+    table: &[i32],
+    list: &[u8],
+    number: u32,
+    law: u32,
+    worst: u32,
+) -> bool {
+    let v = judge(points, triangles, kept, table, list);
+    (v.number == number) & (v.law == law) & (v.worst == worst)
 }
 
 // Compares the judge on one list of an accepted job.
@@ -53,9 +63,9 @@ fn judged(
     } else {
         0
     };
-    let v = judge(points, triangles, kept, table, list);
+    let is_same = is_verdict(points, triangles, kept, table, list, 0, law, q);
     let t = tally.with_law(law);
-    t.with_comparison(is_verdict(v, law, q), seed, b"judge: job ")
+    t.with_comparison(is_same, seed, b"judge: job ")
 }
 
 // Puts the fours of the list in order at the start of out, with the k-th four of n points put in where it is missing and left out where it is there; how

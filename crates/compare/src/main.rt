@@ -27,51 +27,32 @@ use trial::trial;
 
 const JOBS: u64 = 3_600;
 
-// A job is made list by list; a function for each, which hands it on with those before.
 fn with_job(seed: u64, tally: Tally) -> Tally {
+    let d = damage(seed);
     let mut points = [0i32; 54];
-    let n = upto(put_points(seed, &mut points), 54);
-    with_chosen(seed, &points[0..n], tally)
-}
-
-fn with_chosen(seed: u64, points: &[i32], tally: Tally) -> Tally {
+    let p = upto(put_points(seed, &mut points), 54);
     let mut chosen = [0u8; ROOM];
-    let n = upto(put_chosen(seed, points, &mut chosen), ROOM);
-    with_boundary(seed, points, &chosen[0..n], tally)
+    let c = upto(put_chosen(seed, &points[0..p], &mut chosen), ROOM);
+    with_chosen(seed, d, &points[0..p], &chosen[0..c], tally)
 }
 
-fn with_boundary(seed: u64, points: &[i32], chosen: &[u8], tally: Tally) -> Tally {
+// The rest of the job, of its points and the fours that are chosen.
+fn with_chosen(seed: u64, d: u64, points: &[i32], chosen: &[u8], tally: Tally) -> Tally {
     let mut triangles = [0u8; 256];
-    let n = upto(
-        put_boundary(seed, damage(seed), points, chosen, &mut triangles),
-        256,
-    );
-    with_table(seed, points, chosen, &triangles[0..n], tally)
-}
-
-fn with_table(seed: u64, points: &[i32], chosen: &[u8], triangles: &[u8], tally: Tally) -> Tally {
+    let t = upto(put_boundary(seed, d, points, chosen, &mut triangles), 256);
     let mut table = [0i32; 72];
-    let n = upto(
-        put_table(seed, damage(seed), points, chosen, &mut table),
-        72,
-    );
-    with_kept(seed, points, chosen, triangles, &table[0..n], tally)
-}
-
-fn with_kept(
-    seed: u64,
-    points: &[i32],
-    chosen: &[u8],
-    triangles: &[u8],
-    table: &[i32],
-    tally: Tally,
-) -> Tally {
+    let e = upto(put_table(seed, d, points, chosen, &mut table), 72);
     let mut kept = [0u8; 256];
-    let n = upto(
-        put_kept(seed, damage(seed), points.len() / 3, chosen, &mut kept),
-        256,
-    );
-    trial(seed, points, triangles, &kept[0..n], table, chosen, tally)
+    let k = upto(put_kept(seed, d, points.len() / 3, chosen, &mut kept), 256);
+    trial(
+        seed,
+        points,
+        &triangles[0..t],
+        &kept[0..k],
+        &table[0..e],
+        chosen,
+        tally,
+    )
 }
 
 fn with_jobs(jobs: u64, tally: Tally) -> Tally {

@@ -1,6 +1,16 @@
 // One job: the checker against its numbers, the search against the enumerator, the judge against the laws.
+use crate::lists::is_verdict;
 use crate::lists::with_lists;
+use crate::tally::INNER;
+use crate::tally::JOBS;
+use crate::tally::KEPT;
+use crate::tally::PARTS;
+use crate::tally::REFUSED;
+use crate::tally::SEVERAL;
+use crate::tally::SKIPPED;
+use crate::tally::TIES;
 use crate::tally::Tally;
+use crate::tally::VOIDS;
 use checker::check::check_job;
 use enumerator::checker::refusal;
 use enumerator::enumerate::Best;
@@ -13,9 +23,8 @@ use enumerator::read::byte_at;
 use enumerator::read::put;
 use enumerator::read::start;
 use enumerator::read::upto;
-use judge::judge::judge;
-use lines::tally::next;
 use random_jobs::points::has_void;
+use search::search::Found;
 use search::search::search;
 
 // What stands at i in the lent buffer before the search.
@@ -44,6 +53,10 @@ fn is_written(answer: &[u8], list: &[u8]) -> bool {
     true
 }
 
+fn is_found(f: Found, number: u32, worst: u32, count: usize) -> bool {
+    (f.number == number) & (f.worst == worst) & (f.count as usize == count)
+}
+
 // Whether the search answers the number, the worst quality and the list, with every byte of the buffer.
 pub fn is_answer(
     points: &[i32],
@@ -56,17 +69,13 @@ pub fn is_answer(
     answer: &mut [u8],
 ) -> bool {
     put_pattern(answer);
-    let found = search(points, triangles, kept, table, answer);
-    if (found.number != number) | (found.worst != worst) {
-        return false;
-    }
-    if found.count as usize != list.len() / 4 {
-        return false;
-    }
-    is_written(answer, list)
+    let f = search(points, triangles, kept, table, answer);
+    is_found(f, number, worst, list.len() / 4) & is_written(answer, list)
 }
 
-fn is_answered(
+// Compares the search on one job.
+fn searched(
+    seed: u64,
     points: &[i32],
     triangles: &[u8],
     kept: &[u8],
@@ -74,9 +83,10 @@ fn is_answered(
     number: u32,
     worst: u32,
     list: &[u8],
-) -> bool {
+    tally: Tally,
+) -> Tally {
     let mut answer = [0u8; 7280];
-    is_answer(
+    let is_same = is_answer(
         points,
         triangles,
         kept,
@@ -85,7 +95,8 @@ fn is_answered(
         worst,
         list,
         &mut answer,
-    )
+    );
+    tally.with_answer(number, is_same, seed)
 }
 
 fn refused(
@@ -98,19 +109,10 @@ fn refused(
     number: u32,
     tally: Tally,
 ) -> Tally {
-    let is_same = is_answered(points, triangles, kept, table, number, 0, b"");
-    let v = judge(points, triangles, kept, table, chosen);
-    let mut t = tally.with_answer(number, is_same, seed);
-    t.refused = next(t.refused);
-    t.with_comparison(
-        (v.number == number) & (v.law == 0) & (v.worst == 0),
-        seed,
-        b"judge: job ",
-    )
-}
-
-fn one_if(n: u64, is_one: bool) -> u64 {
-    if is_one { next(n) } else { n }
+    let is_refused = is_verdict(points, triangles, kept, table, chosen, number, 0, 0);
+    let t = searched(seed, points, triangles, kept, table, number, 0, b"", tally);
+    let all = t.more(REFUSED);
+    all.with_comparison(is_refused, seed, b"judge: job ")
 }
 
 // Whether some point is no corner of the boundary.
@@ -142,18 +144,14 @@ fn with_filled(
     best: Best,
     tally: Tally,
 ) -> Tally {
-    let mut t = tally;
-    t.several = one_if(t.several, best.lawful > 1);
-    t.ties = one_if(t.ties, best.ties > 1);
-    t.inner = one_if(t.inner, has_inner_point(points, triangles));
-    t.kept = one_if(t.kept, kept.len() > 0);
+    let a = tally.more_if(best.lawful > 1, SEVERAL);
+    let b = a.more_if(best.ties > 1, TIES);
+    let c = b.more_if(has_inner_point(points, triangles), INNER);
+    let d = c.more_if(kept.len() > 0, KEPT);
     // As many boundary triangles as faces: no two tetrahedra share one.
-    t.parts = one_if(
-        t.parts,
-        (list.len() > 4) & (triangles.len() / 3 == list.len()),
-    );
-    t.voids = one_if(t.voids, has_void(seed));
-    t
+    let is_parted = (list.len() > 4) & (triangles.len() / 3 == list.len());
+    let e = d.more_if(is_parted, PARTS);
+    e.more_if(has_void(seed), VOIDS)
 }
 
 // A job that has a lawful filling, of which the list is the best.
@@ -168,8 +166,17 @@ fn filled(
     best: Best,
     tally: Tally,
 ) -> Tally {
-    let is_same = is_answered(points, triangles, kept, table, 0, best.worst, list);
-    let t = tally.with_answer(0, is_same, seed);
+    let t = searched(
+        seed,
+        points,
+        triangles,
+        kept,
+        table,
+        0,
+        best.worst,
+        list,
+        tally,
+    );
     let t2 = with_filled(seed, points, triangles, kept, list, best, t);
     with_lists(seed, points, triangles, kept, table, list, pool, t2)
 }
@@ -187,8 +194,7 @@ fn accepted(
 ) -> Tally {
     let best = best_filling(points, triangles, kept, table, pool);
     if best.lawful == 0 {
-        let is_same = is_answered(points, triangles, kept, table, 15, 0, b"");
-        let t = tally.with_answer(15, is_same, seed);
+        let t = searched(seed, points, triangles, kept, table, 15, 0, b"", tally);
         return with_lists(seed, points, triangles, kept, table, chosen, pool, t);
     }
     let mut room = [0u8; ROOM];
@@ -225,7 +231,8 @@ pub fn trial(
     let mut room = [0u8; ROOM];
     let m = put_pool(points, table, &mut room);
     if m > MOST {
-        return t.with_skipped();
+        let all = t.more(JOBS);
+        return all.more(SKIPPED);
     }
     let n = upto(start(m, 4), ROOM);
     accepted(seed, points, triangles, kept, table, chosen, &room[0..n], t)

@@ -22,8 +22,8 @@ pub const ROOM: usize = 64;
 // What the enumerator found: how many fillings are lawful, how many of them have the best worst quality, that quality, and which subset is the first list
 // of those.
 pub struct Best {
-    pub lawful: u64,
-    pub ties: u64,
+    pub lawful: usize,
+    pub ties: usize,
     pub worst: u32,
     pub subset: usize,
 }
@@ -45,11 +45,7 @@ pub fn put_pool(points: &[i32], table: &[i32], out: &mut [u8]) -> usize {
 
 // How many subsets m fours have, where they are at most 15.
 pub fn subsets(m: usize) -> usize {
-    let mut n: usize = 1;
-    for k in 0..upto(m, MOST) {
-        n = offset(n, n);
-    }
-    n
+    1 << upto(m, MOST)
 }
 
 // Puts the s-th subset of the pool at the start of out, in order; how many bytes that is.
@@ -86,49 +82,36 @@ fn is_before(pool: &[u8], list: &[u8], s: usize) -> bool {
     comes_first(list, &room[0..n])
 }
 
-fn more(n: u64) -> u64 {
-    if n < u64::MAX { n + 1 } else { n }
-}
-
-fn found(lawful: u64, ties: u64, worst: u32, subset: usize) -> Best {
-    Best {
-        lawful,
-        ties,
-        worst,
-        subset,
-    }
-}
-
 // The best so far, with one more lawful list of worst quality q, which is the s-th subset.
 fn with_lawful(pool: &[u8], list: &[u8], s: usize, q: u32, best: Best) -> Best {
-    let lawful = more(best.lawful);
+    let lawful = up(best.lawful);
     if (best.lawful == 0) | (q > best.worst) {
-        return found(lawful, 1, q, s);
+        return Best {
+            lawful,
+            ties: 1,
+            worst: q,
+            subset: s,
+        };
     }
     if q < best.worst {
-        return found(lawful, best.ties, best.worst, best.subset);
+        return Best {
+            lawful,
+            ties: best.ties,
+            worst: best.worst,
+            subset: best.subset,
+        };
     }
-    if is_before(pool, list, best.subset) {
-        return found(lawful, more(best.ties), q, s);
+    let subset = if is_before(pool, list, best.subset) {
+        s
+    } else {
+        best.subset
+    };
+    Best {
+        lawful,
+        ties: up(best.ties),
+        worst: q,
+        subset,
     }
-    found(lawful, more(best.ties), q, best.subset)
-}
-
-// The best so far, after one more list, which is the s-th subset.
-fn with_list(
-    points: &[i32],
-    triangles: &[u8],
-    kept: &[u8],
-    table: &[i32],
-    pool: &[u8],
-    list: &[u8],
-    s: usize,
-    best: Best,
-) -> Best {
-    if lowest_broken(points, triangles, kept, table, list) != 0 {
-        return best;
-    }
-    with_lawful(pool, list, s, worst(points, table, list), best)
 }
 
 // The best so far, after one more subset.
@@ -143,7 +126,11 @@ fn tried(
 ) -> Best {
     let mut room = [0u8; ROOM];
     let n = upto(put_subset(pool, s, &mut room), ROOM);
-    with_list(points, triangles, kept, table, pool, &room[0..n], s, best)
+    let list = &room[0..n];
+    if lowest_broken(points, triangles, kept, table, list) != 0 {
+        return best;
+    }
+    with_lawful(pool, list, s, worst(points, table, list), best)
 }
 
 // The best lawful filling, of all the subsets of the pool.
@@ -154,7 +141,12 @@ pub fn best_filling(
     table: &[i32],
     pool: &[u8],
 ) -> Best {
-    let mut best = found(0, 0, 0, 0);
+    let mut best = Best {
+        lawful: 0,
+        ties: 0,
+        worst: 0,
+        subset: 0,
+    };
     for s in 0..subsets(pool.len() / 4) {
         best = tried(points, triangles, kept, table, pool, s, best);
     }

@@ -1,4 +1,5 @@
 // Triangles of three points' numbers, and the outward faces of tetrahedra.
+use crate::fours::corner;
 use crate::fours::listed;
 use crate::read::byte_at;
 use crate::read::offset;
@@ -6,6 +7,9 @@ use crate::read::put;
 use crate::read::start;
 use geometry::tetrahedron::Four;
 use geometry_c::checked::turned;
+
+// Which corners the outward faces of a four of positive volume have.
+const OUTWARD: [u8; 12] = [0, 2, 1, 0, 1, 3, 0, 3, 2, 1, 2, 3];
 
 pub struct Triangle {
     pub a: usize,
@@ -39,24 +43,14 @@ pub fn is_same(s: Triangle, t: Triangle) -> bool {
     is_equal(s, t) | is_equal(s, three(t.b, t.c, t.a)) | is_equal(s, three(t.c, t.a, t.b))
 }
 
-// Whether t is one of the triangles of the list.
-pub fn stands(list: &[u8], t: Triangle) -> bool {
-    for i in 0..list.len() / 3 {
+// Whether t is one of the triangles of the list, from a place on.
+pub fn stands(list: &[u8], from: usize, t: Triangle) -> bool {
+    for i in from..list.len() / 3 {
         if is_same(triangle_at(list, i), t) {
             return true;
         }
     }
     false
-}
-
-// The k-th outward face of f, whose volume is positive.
-pub fn outward(f: Four, k: usize) -> Triangle {
-    match k {
-        0 => three(f.a, f.c, f.b),
-        1 => three(f.a, f.b, f.d),
-        2 => three(f.a, f.d, f.c),
-        _ => three(f.b, f.c, f.d),
-    }
 }
 
 pub fn put_triangle(out: &mut [u8], at: usize, t: Triangle) {
@@ -65,17 +59,17 @@ pub fn put_triangle(out: &mut [u8], at: usize, t: Triangle) {
     put(out, offset(at, 2), t.c);
 }
 
-fn put_four_faces(points: &[i32], f: Four, out: &mut [u8], at: usize) {
-    let t = turned(points, f);
-    put_triangle(out, at, outward(t, 0));
-    put_triangle(out, offset(at, 3), outward(t, 1));
-    put_triangle(out, offset(at, 6), outward(t, 2));
-    put_triangle(out, offset(at, 9), outward(t, 3));
+// The outward faces of t, which has a positive volume.
+fn put_four_faces(t: Four, out: &mut [u8], at: usize) {
+    let corners = OUTWARD;
+    for k in 0..12 {
+        put(out, offset(at, k), corner(t, byte_at(&corners, k)));
+    }
 }
 
 // Puts the outward faces of the list's fours at the start of out, twelve bytes a four.
 pub fn put_faces(points: &[i32], list: &[u8], out: &mut [u8]) {
     for i in 0..list.len() / 4 {
-        put_four_faces(points, listed(list, i), out, start(i, 12));
+        put_four_faces(turned(points, listed(list, i)), out, start(i, 12));
     }
 }

@@ -36,18 +36,6 @@ pub fn is_same(f: Four, g: Four) -> bool {
     (f.a == g.a) & (f.b == g.b) & (f.c == g.c) & (f.d == g.d)
 }
 
-// How many fours n points have.
-pub fn how_many(n: usize) -> usize {
-    let mut f = first();
-    for k in 0..4000 {
-        if f.d >= n {
-            return k;
-        }
-        f = after(f, n);
-    }
-    4000
-}
-
 // The four at place k of those of n points.
 pub fn at_place(n: usize, k: usize) -> Four {
     let mut f = first();
@@ -57,16 +45,21 @@ pub fn at_place(n: usize, k: usize) -> Four {
     f
 }
 
-// Where f stands among the fours of n points.
+// Where f stands among the fours of n points; behind them all where it is none of them.
 pub fn place_of(n: usize, f: Four) -> usize {
     let mut g = first();
     for k in 0..4000 {
-        if is_same(f, g) {
+        if (g.d >= n) | is_same(f, g) {
             return k;
         }
         g = after(g, n);
     }
     4000
+}
+
+// How many fours n points have.
+pub fn how_many(n: usize) -> usize {
+    place_of(n, four(0, 0, 0, 0))
 }
 
 // The i-th four of a list of bytes.
@@ -94,9 +87,17 @@ pub fn is_listed(list: &[u8], f: Four) -> bool {
     false
 }
 
+pub fn corner(f: Four, k: usize) -> usize {
+    match k {
+        0 => f.a,
+        1 => f.b,
+        2 => f.c,
+        _ => f.d,
+    }
+}
+
 pub fn put_four(out: &mut [u8], at: usize, f: Four) {
-    put(out, at, f.a);
-    put(out, offset(at, 1), f.b);
-    put(out, offset(at, 2), f.c);
-    put(out, offset(at, 3), f.d);
+    for k in 0..4 {
+        put(out, offset(at, k), corner(f, k));
+    }
 }

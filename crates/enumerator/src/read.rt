@@ -62,9 +62,3 @@ pub fn upto(n: usize, most: usize) -> usize
 {
     if n < most { n } else { most }
 }
-
-pub fn copy(from: &[u8], out: &mut [u8]) {
-    for i in 0..from.len() {
-        put(out, i, byte_at(from, i));
-    }
-}

@@ -1,8 +1,6 @@
 // The seven laws of document 01, each straight from its sentence. Nothing here is taken from the judge or the search; of the geometry only D, the
 // order that makes it positive, strictly inside and apart are.
 // A list of up to 64 fours.
-use crate::faces::Triangle;
-use crate::faces::is_same;
 use crate::faces::put_faces;
 use crate::faces::reversed;
 use crate::faces::stands;
@@ -26,11 +24,6 @@ use geometry_c::checked::turned;
 // The bytes of the outward faces of 64 tetrahedra.
 const FACES: usize = 768;
 
-// Law 1: strictly increasing fours of present points.
-fn is_four(f: Four, n: usize) -> bool {
-    (f.a < f.b) & (f.b < f.c) & (f.c < f.d) & (f.d < n)
-}
-
 // Whether f comes before g, number by number.
 fn precedes(f: Four, g: Four) -> bool {
     if f.a != g.a {
@@ -45,27 +38,15 @@ fn precedes(f: Four, g: Four) -> bool {
     f.d < g.d
 }
 
+// Law 1: a strictly increasing four of present points, before the next one.
 fn is_in_order(list: &[u8], i: usize, n: usize) -> bool {
     let f = listed(list, i);
-    if !is_four(f, n) {
-        return false;
-    }
-    if up(i) < list.len() / 4 {
-        return precedes(f, listed(list, up(i)));
-    }
-    true
-}
-
-fn keeps_1(points: &[i32], list: &[u8]) -> bool {
-    if list.len() % 4 != 0 {
-        return false;
-    }
-    for i in 0..list.len() / 4 {
-        if !is_in_order(list, i, points.len() / 3) {
-            return false;
-        }
-    }
-    true
+    let is_last = up(i) >= list.len() / 4;
+    (f.a < f.b)
+        & (f.b < f.c)
+        & (f.c < f.d)
+        & (f.d < n)
+        & (is_last | precedes(f, listed(list, up(i))))
 }
 
 // The entry of f.
@@ -81,15 +62,6 @@ pub fn has_quality(points: &[i32], table: &[i32], f: Four) -> bool {
     entry(points, table, f) > 0
 }
 
-fn keeps_2(points: &[i32], table: &[i32], list: &[u8]) -> bool {
-    for i in 0..list.len() / 4 {
-        if !has_quality(points, table, listed(list, i)) {
-            return false;
-        }
-    }
-    true
-}
-
 // Law 3: no point strictly inside.
 pub fn holds_a_point(points: &[i32], f: Four) -> bool {
     let t = turned(points, f);
@@ -101,73 +73,36 @@ pub fn holds_a_point(points: &[i32], f: Four) -> bool {
     false
 }
 
-fn keeps_3(points: &[i32], list: &[u8]) -> bool {
-    for i in 0..list.len() / 4 {
-        if holds_a_point(points, listed(list, i)) {
-            return false;
-        }
-    }
-    true
-}
-
-// Law 4, first sentence, for one face: it belongs to one tetrahedron only.
-fn stands_again(faces: &[u8], i: usize) -> bool {
-    let t = triangle_at(faces, i);
-    for j in up(i)..faces.len() / 3 {
-        if is_same(triangle_at(faces, j), t) {
-            return true;
-        }
-    }
-    false
-}
-
-fn any_face_twice(faces: &[u8]) -> bool {
-    for i in 0..faces.len() / 3 {
-        if stands_again(faces, i) {
-            return true;
-        }
-    }
-    false
-}
-
 // Law 4, second sentence: each boundary triangle is a face.
 fn is_bounded(triangles: &[u8], faces: &[u8]) -> bool {
     for i in 0..triangles.len() / 3 {
-        if !stands(faces, triangle_at(triangles, i)) {
+        if !stands(faces, 0, triangle_at(triangles, i)) {
             return false;
         }
     }
     true
 }
 
-// Law 4, third sentence: a face that is no boundary triangle has its reverse among the faces, and that is no boundary triangle either.
-fn is_closed(triangles: &[u8], faces: &[u8], t: Triangle) -> bool {
-    if stands(triangles, t) {
-        return true;
-    }
-    if !stands(faces, reversed(t)) {
-        return false;
-    }
-    !stands(triangles, reversed(t))
-}
-
-fn are_closed(triangles: &[u8], faces: &[u8]) -> bool {
-    for i in 0..faces.len() / 3 {
-        if !is_closed(triangles, faces, triangle_at(faces, i)) {
-            return false;
-        }
-    }
-    true
+// Law 4, first and third sentence, for face i: it belongs to one tetrahedron only; if it is no boundary triangle, its reverse is among the faces, and is
+// no boundary triangle either.
+fn is_matched(triangles: &[u8], faces: &[u8], i: usize) -> bool {
+    let t = triangle_at(faces, i);
+    let r = reversed(t);
+    !stands(faces, up(i), t)
+        & (stands(triangles, 0, t) | (stands(faces, 0, r) & !stands(triangles, 0, r)))
 }
 
 fn are_matched(triangles: &[u8], faces: &[u8]) -> bool {
-    if any_face_twice(faces) {
-        return false;
-    }
+    // First: most lists fail here.
     if !is_bounded(triangles, faces) {
         return false;
     }
-    are_closed(triangles, faces)
+    for i in 0..faces.len() / 3 {
+        if !is_matched(triangles, faces, i) {
+            return false;
+        }
+    }
+    true
 }
 
 fn keeps_4(points: &[i32], triangles: &[u8], list: &[u8]) -> bool {
@@ -187,35 +122,7 @@ pub fn is_apart_from(points: &[i32], list: &[u8], f: Four, from: usize) -> bool 
     true
 }
 
-fn keeps_5(points: &[i32], list: &[u8]) -> bool {
-    for i in 0..list.len() / 4 {
-        if !is_apart_from(points, list, listed(list, i), up(i)) {
-            return false;
-        }
-    }
-    true
-}
-
-// Law 6: every point is a corner.
-pub fn is_corner(list: &[u8], p: usize) -> bool {
-    for i in 0..list.len() / 4 {
-        if has_corner(listed(list, i), p) {
-            return true;
-        }
-    }
-    false
-}
-
-fn keeps_6(points: &[i32], list: &[u8]) -> bool {
-    for p in 0..points.len() / 3 {
-        if !is_corner(list, p) {
-            return false;
-        }
-    }
-    true
-}
-
-// Law 7: every kept edge is an edge of some tetrahedron.
+// Law 7: some tetrahedron has the corners p and q. Law 6, where they are one point.
 fn is_edge(list: &[u8], p: usize, q: usize) -> bool {
     for i in 0..list.len() / 4 {
         let f = listed(list, i);
@@ -226,39 +133,48 @@ fn is_edge(list: &[u8], p: usize, q: usize) -> bool {
     false
 }
 
-fn keeps_7(kept: &[u8], list: &[u8]) -> bool {
-    for i in 0..kept.len() / 2 {
-        let at = start(i, 2);
-        if !is_edge(list, byte_at(kept, at), byte_at(kept, offset(at, 1))) {
-            return false;
+// How many things the law is about: fours, points, kept edges.
+fn things(law: u32, points: &[i32], kept: &[u8], list: &[u8]) -> usize {
+    match law {
+        6 => points.len() / 3,
+        7 => kept.len() / 2,
+        _ => list.len() / 4,
+    }
+}
+
+// Whether the i-th of them breaks the law, which is not law 4.
+fn breaks(law: u32, points: &[i32], kept: &[u8], table: &[i32], list: &[u8], i: usize) -> bool {
+    match law {
+        1 => !is_in_order(list, i, points.len() / 3),
+        2 => !has_quality(points, table, listed(list, i)),
+        3 => holds_a_point(points, listed(list, i)),
+        5 => !is_apart_from(points, list, listed(list, i), up(i)),
+        6 => !is_edge(list, i, i),
+        _ => !is_edge(
+            list,
+            byte_at(kept, start(i, 2)),
+            byte_at(kept, offset(start(i, 2), 1)),
+        ),
+    }
+}
+
+fn is_broken(
+    law: u32,
+    points: &[i32],
+    triangles: &[u8],
+    kept: &[u8],
+    table: &[i32],
+    list: &[u8],
+) -> bool {
+    if law == 4 {
+        return !keeps_4(points, triangles, list);
+    }
+    for i in 0..things(law, points, kept, list) {
+        if breaks(law, points, kept, table, list, i) {
+            return true;
         }
     }
-    true
-}
-
-// The lowest of laws 1 to 3 that the list breaks, 0 for none.
-fn lowest_alone(points: &[i32], table: &[i32], list: &[u8]) -> u32 {
-    if !keeps_1(points, list) {
-        return 1;
-    }
-    if !keeps_2(points, table, list) {
-        return 2;
-    }
-    if keeps_3(points, list) { 0 } else { 3 }
-}
-
-// The lowest of laws 4 to 7 that it breaks.
-fn lowest_together(points: &[i32], triangles: &[u8], kept: &[u8], list: &[u8]) -> u32 {
-    if !keeps_4(points, triangles, list) {
-        return 4;
-    }
-    if !keeps_5(points, list) {
-        return 5;
-    }
-    if !keeps_6(points, list) {
-        return 6;
-    }
-    if keeps_7(kept, list) { 0 } else { 7 }
+    false
 }
 
 // The lowest law that the list breaks, 0 for none.
@@ -269,11 +185,15 @@ pub fn lowest_broken(
     table: &[i32],
     list: &[u8],
 ) -> u32 {
-    let law = lowest_alone(points, table, list);
-    if law != 0 {
-        return law;
+    if list.len() % 4 != 0 {
+        return 1;
     }
-    lowest_together(points, triangles, kept, list)
+    for law in 1..8 {
+        if is_broken(law, points, triangles, kept, table, list) {
+            return law;
+        }
+    }
+    0
 }
 
 // An entry as a quality, 0 for none.

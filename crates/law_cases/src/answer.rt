@@ -67,8 +67,11 @@ fn with_table(job: &[u8], list: &[u8], points: &[i32], triangles: &[u8], kept: &
         return Answer::Unread;
     }
     let n = read.n;
-    Answer::Of {
-        number: check_job(points, triangles, kept, &table[0..n]),
-        verdict: judge(points, triangles, kept, &table[0..n], list),
-    }
+    answers(points, triangles, kept, &table[0..n], list)
+}
+
+fn answers(points: &[i32], triangles: &[u8], kept: &[u8], table: &[i32], list: &[u8]) -> Answer {
+    let number = check_job(points, triangles, kept, table);
+    let verdict = judge(points, triangles, kept, table, list);
+    Answer::Of { number, verdict }
 }

@@ -13,19 +13,29 @@ use lines::text::after;
 use lines::text::before;
 use lines::text::past;
 
+// Counts by what they count. Jobs by the checker's number stand from NUMBERS on, 0 for those that it lets pass; lists of jobs that pass from LAWS on, by the lowest
+// law broken, 0 for lawful ones; the other lists are refused.
 pub struct Tally {
-    pub lines: u64,
-    pub jobs: u64,
-    pub lists: u64,
-    pub unread: u64,
-    pub agree: u64,
-    pub differ: u64,
-    // Jobs by the checker's number, 0 for those that it lets pass.
-    pub numbers: [u64; 14],
-    // Lists of jobs that pass, by the lowest law broken, 0 for lawful ones; the others are refused.
-    pub laws: [u64; 8],
-    pub refused: u64,
+    counts: [u64; 32],
 }
+
+const LINES: usize = 0;
+
+const JOBS: usize = 1;
+
+const LISTS: usize = 2;
+
+const UNREAD: usize = 3;
+
+const AGREE: usize = 4;
+
+const DIFFER: usize = 5;
+
+const REFUSED: usize = 6;
+
+const LAWS: usize = 8;
+
+const NUMBERS: usize = 16;
 
 // The most lines that are named as different.
 const NAMED: u64 = 5;
@@ -38,63 +48,76 @@ fn is_list(line: &[u8]) -> bool {
     same(before(line, b';'), b"L")
 }
 
-// Each count from the first on, with what it counts and its place.
-fn print_each(counts: &[u64], first: usize, what: &[u8]) {
-    for k in first..counts.len() {
-        print(b", ");
-        print_count(counts[k], what);
-        print_count(k as u64, b"");
+// Where jobs of this number are counted; past the end where there are none.
+fn number_place(number: u32) -> usize {
+    if number < 14 {
+        16 + number as usize
+    } else {
+        32
     }
-    print(b"\n");
+}
+
+// Where lists that break this law are counted.
+fn law_place(law: u32) -> usize {
+    if law < 8 { 8 + law as usize } else { 32 }
 }
 
 impl Tally {
     fn new() -> Self {
-        Tally {
-            lines: 0,
-            jobs: 0,
-            lists: 0,
-            unread: 0,
-            agree: 0,
-            differ: 0,
-            numbers: [0; 14],
-            laws: [0; 8],
-            refused: 0,
-        }
+        Tally { counts: [0; 32] }
     }
 
-    fn with_number(mut self, number: u32) -> Self {
-        let k = number as usize;
-        self.jobs = next(self.jobs);
-        if k < 14 {
-            self.numbers[k] = next(self.numbers[k]);
+    // One more of what is counted there.
+    fn more(mut self, at: usize) -> Self {
+        if at < 32 {
+            self.counts[at] = next(self.counts[at]);
         }
         self
     }
 
-    fn with_verdict(mut self, v: Verdict) -> Self {
-        let k = v.law as usize;
-        self.lists = next(self.lists);
+    fn count(self, at: usize) -> u64 {
+        if at < 32 { self.counts[at] } else { 0 }
+    }
+
+    fn count_behind(self, from: usize, k: usize) -> u64 {
+        if from < 32 {
+            if k < 32 {
+                return self.count(from + k);
+            }
+        }
+        0
+    }
+
+    // Each count behind from, from the first to before the last, with what it counts and its place.
+    fn print_each(self, from: usize, first: usize, last: usize, what: &[u8]) {
+        for k in first..last {
+            print(b", ");
+            print_count(self.count_behind(from, k), what);
+            print_count(k as u64, b"");
+        }
+        print(b"\n");
+    }
+
+    fn with_number(self, number: u32) -> Self {
+        let t = self.more(JOBS);
+        t.more(number_place(number))
+    }
+
+    fn with_verdict(self, v: Verdict) -> Self {
+        let t = self.more(LISTS);
         if v.number != 0 {
-            self.refused = next(self.refused);
-        } else if k < 8 {
-            self.laws[k] = next(self.laws[k]);
+            return t.more(REFUSED);
         }
-        self
+        t.more(law_place(v.law))
     }
 
-    fn with_comparison(mut self, is_agreeing: bool) -> Self {
-        if is_agreeing {
-            self.agree = next(self.agree);
-        } else {
-            self.differ = next(self.differ);
-        }
-        self
+    fn with_comparison(self, is_agreeing: bool) -> Self {
+        self.more(if is_agreeing { AGREE } else { DIFFER })
     }
 
-    fn with_unread(mut self) -> Self {
-        self.unread = next(self.unread);
-        self.with_comparison(false)
+    fn with_unread(self) -> Self {
+        let t = self.more(UNREAD);
+        t.more(DIFFER)
     }
 
     // POINTS;TRIANGLES;KEPT;TABLE;NUMBER
@@ -118,8 +141,7 @@ impl Tally {
     }
 
     // The job is that of the last line that has one.
-    fn with_line(mut self, job: &[u8], line: &[u8]) -> Self {
-        self.lines = next(self.lines);
+    fn with_case(self, job: &[u8], line: &[u8]) -> Self {
         if is_job(line) {
             return self.with_job(job);
         }
@@ -129,25 +151,42 @@ impl Tally {
         self.with_unread()
     }
 
+    fn with_line(self, job: &[u8], line: &[u8]) -> Self {
+        let t = self.more(LINES);
+        let all = t.with_case(job, line);
+        if all.count(DIFFER) > t.count(DIFFER) {
+            all.print_difference();
+        }
+        all
+    }
+
     fn print_difference(self) {
-        if self.differ <= NAMED {
+        if self.count(DIFFER) <= NAMED {
             print(b"differs: line ");
-            print_count(self.lines, b"\n");
+            print_count(self.count(LINES), b"\n");
         }
     }
 
+    fn print_jobs(self) {
+        print_count(self.count(LINES), b" lines, ");
+        print_count(self.count(UNREAD), b" unread\n");
+        print_count(self.count(JOBS), b" jobs: ");
+        print_count(self.count(NUMBERS), b" pass");
+        self.print_each(NUMBERS, 2, 14, b" refused ");
+    }
+
+    fn print_lists(self) {
+        print_count(self.count(LISTS), b" lists: ");
+        print_count(self.count(REFUSED), b" of a refused job, ");
+        print_count(self.count(LAWS), b" lawful");
+        self.print_each(LAWS, 1, 8, b" break law ");
+    }
+
     pub fn print(self) {
-        print_count(self.lines, b" lines, ");
-        print_count(self.unread, b" unread\n");
-        print_count(self.jobs, b" jobs: ");
-        print_count(self.numbers[0], b" pass");
-        print_each(&self.numbers, 2, b" refused ");
-        print_count(self.lists, b" lists: ");
-        print_count(self.refused, b" of a refused job, ");
-        print_count(self.laws[0], b" lawful");
-        print_each(&self.laws, 1, b" break law ");
-        print_count(self.agree, b" agree, ");
-        print_count(self.differ, b" differ\n");
+        self.print_jobs();
+        self.print_lists();
+        print_count(self.count(AGREE), b" agree, ");
+        print_count(self.count(DIFFER), b" differ\n");
     }
 }
 
@@ -162,11 +201,7 @@ pub fn tally_of(text: &[u8]) -> Tally {
             // Past J and NAME.
             job = after(after(line, b';'), b';');
         }
-        let before_it = t.differ;
         t = t.with_line(job, line);
-        if t.differ > before_it {
-            t.print_difference();
-        }
         let from = past(rest, b'\n');
         rest = &rest[from..];
     }

@@ -15,8 +15,8 @@ use crate::points::is_nested;
 use crate::random::chance;
 use crate::random::index;
 use crate::random::nth;
+use enumerator::enumerate::put_subset;
 use enumerator::faces::Triangle;
-use enumerator::faces::outward;
 use enumerator::faces::put_faces;
 use enumerator::faces::put_triangle;
 use enumerator::faces::reversed;
@@ -25,17 +25,15 @@ use enumerator::faces::three;
 use enumerator::faces::triangle_at;
 use enumerator::fours::at_place;
 use enumerator::fours::how_many;
-use enumerator::fours::is_listed;
 use enumerator::fours::put_four;
-use enumerator::read::copy;
 use enumerator::read::offset;
 use enumerator::read::start;
+use enumerator::read::up;
 use enumerator::read::upto;
 use enumerator::rules::is_apart_from;
 use geometry::tetrahedron::Four;
 use geometry_c::checked::YES;
 use geometry_c::checked::solid;
-use geometry_c::checked::turned;
 
 const LOOSE: u64 = 30;
 
@@ -107,41 +105,34 @@ const SHELL: [u8; 56] = [
     6,
 ];
 
-// Whether a face of f is one of these faces.
-fn shares_face(points: &[i32], faces: &[u8], f: Four) -> bool {
-    let t = turned(points, f);
-    stands(faces, outward(t, 0))
-        | stands(faces, outward(t, 1))
-        | stands(faces, outward(t, 2))
-        | stands(faces, outward(t, 3))
-}
+// The subset with all the fours of the shell.
+const ALL: usize = 16_383;
 
-// Whether f can be taken besides the fours of the list. Now and then one that overlaps is taken too.
-fn is_taken_too(points: &[i32], list: &[u8], f: Four, is_loose: bool) -> bool {
-    if solid(points, f) != YES {
-        return false;
-    }
-    if is_listed(list, f) {
-        return false;
-    }
-    if !is_loose {
-        if !is_apart_from(points, list, f, 0) {
-            return false;
+fn any_twice(faces: &[u8]) -> bool {
+    for i in 0..faces.len() / 3 {
+        if stands(faces, up(i), triangle_at(faces, i)) {
+            return true;
         }
     }
+    false
+}
+
+// Whether two fours of the list have a face in common and lie on the same side of it; so do two that are the same.
+fn shares_face(points: &[i32], list: &[u8]) -> bool {
     let mut faces = [0u8; FACES];
     put_faces(points, list, &mut faces);
     let n = upto(start(list.len() / 4, 12), FACES);
-    !shares_face(points, &faces[0..n], f)
+    any_twice(&faces[0..n])
 }
 
-// The same, of the first n bytes of a list.
+// Whether f, which stands behind the first n bytes of the list, can be taken besides the fours there. Now and then one that overlaps is taken too.
 fn fits(points: &[i32], list: &[u8], n: usize, f: Four, is_loose: bool) -> bool {
-    if n >= 60 {
+    if (n >= 60) | (solid(points, f) != YES) {
         return false;
     }
     let m = upto(n, list.len());
-    is_taken_too(points, &list[0..m], f, is_loose)
+    let all = upto(offset(n, 4), list.len());
+    (is_loose | is_apart_from(points, &list[0..m], f, 0)) & !shares_face(points, &list[0..all])
 }
 
 // The place of the t-th four that is tried, of so many; where the points are nested the outer tetrahedron comes first.
@@ -167,18 +158,18 @@ fn put_random(seed: u64, points: &[i32], out: &mut [u8]) -> usize {
     len
 }
 
-fn put_shell(out: &mut [u8]) -> usize {
-    let shell = SHELL;
-    copy(&shell, out);
-    56
-}
-
 // Puts the fours whose boundary the job has at the start of out, in no order; how many bytes that is.
 pub fn put_chosen(seed: u64, points: &[i32], out: &mut [u8]) -> usize {
     if has_void(seed) {
-        return put_shell(out);
+        let shell = SHELL;
+        return put_subset(&shell, ALL, out);
     }
     put_random(seed, points, out)
+}
+
+// The side of a face that the boundary has.
+fn side(d: u64, t: Triangle) -> Triangle {
+    if d == ALL_REVERSED { reversed(t) } else { t }
 }
 
 // Puts the faces whose reverse is none of the faces at the start of out; how many bytes that is.
@@ -186,12 +177,20 @@ fn put_unmatched(faces: &[u8], d: u64, out: &mut [u8]) -> usize {
     let mut len: usize = 0;
     for i in 0..faces.len() / 3 {
         let t = triangle_at(faces, i);
-        put_triangle(out, len, if d == ALL_REVERSED { reversed(t) } else { t });
-        if !stands(faces, reversed(t)) {
+        put_triangle(out, len, side(d, t));
+        if !stands(faces, 0, reversed(t)) {
             len = offset(len, 3);
         }
     }
     len
+}
+
+// The same, of the faces of the chosen fours.
+fn put_sides(d: u64, points: &[i32], chosen: &[u8], out: &mut [u8]) -> usize {
+    let mut faces = [0u8; FACES];
+    put_faces(points, chosen, &mut faces);
+    let n = upto(start(chosen.len() / 4, 12), FACES);
+    put_unmatched(&faces[0..n], d, out)
 }
 
 // What the damage puts for the triangle t of a job of n points.
@@ -227,10 +226,7 @@ fn left_of(d: u64, len: usize) -> usize {
 
 // Puts the boundary of the chosen fours, with the damage, at the start of out; how many bytes that is.
 pub fn put_boundary(seed: u64, d: u64, points: &[i32], chosen: &[u8], out: &mut [u8]) -> usize {
-    let mut faces = [0u8; FACES];
-    put_faces(points, chosen, &mut faces);
-    let n = upto(start(chosen.len() / 4, 12), FACES);
-    let len = put_unmatched(&faces[0..n], d, out);
+    let len = put_sides(d, points, chosen, out);
     let i = index(seed, HURT, len / 3);
     let t = damaged(d, triangle_at(out, i), points.len() / 3);
     put_triangle(out, damaged_place(d, i, len), t);

@@ -20,43 +20,6 @@ const WHICH: u64 = 52;
 
 const POINT: u64 = 8000;
 
-// q, or a point other than p where q is p.
-fn another(p: usize, q: usize) -> usize {
-    if p != q {
-        return q;
-    }
-    if p == 0 { 1 } else { 0 }
-}
-
-fn put_edge(seed: u64, e: usize, n: usize, out: &mut [u8]) {
-    let at = start(e, 2);
-    let p = index(seed, nth(POINT, at), n);
-    let q = index(seed, nth(POINT, offset(at, 1)), n);
-    put(out, at, p);
-    put(out, offset(at, 1), another(p, q));
-}
-
-fn put_edges(seed: u64, count: usize, n: usize, out: &mut [u8]) {
-    for e in 0..count {
-        put_edge(seed, e, n, out);
-    }
-}
-
-// An edge of one of the chosen fours.
-fn put_chosen_edge(seed: u64, chosen: &[u8], out: &mut [u8]) {
-    let at = start(index(seed, WHICH, chosen.len() / 4), 4);
-    put(
-        out,
-        0,
-        byte_at(chosen, offset(at, index(seed, nth(POINT, 0), 2))),
-    );
-    put(
-        out,
-        1,
-        byte_at(chosen, offset(at, offset(2, index(seed, nth(POINT, 1), 2)))),
-    );
-}
-
 // How many edges the job has, without a bad one.
 fn how_many_edges(seed: u64, d: u64) -> usize {
     if d == EDGES_121 {
@@ -72,15 +35,41 @@ fn how_many_edges(seed: u64, d: u64) -> usize {
     }
 }
 
-fn is_chosen_edge(seed: u64) -> bool {
-    let style = drawn(seed, STYLE, 8);
-    (style == 4) | (style == 5)
+// Byte i of any edges: two points, another one where they are the same.
+fn any_byte(seed: u64, n: usize, i: usize) -> usize {
+    let p = index(seed, nth(POINT, start(i / 2, 2)), n);
+    let q = index(seed, nth(POINT, i), n);
+    if (i % 2 == 0) | (p != q) {
+        return q;
+    }
+    if p == 0 { 1 } else { 0 }
 }
 
-// Puts a bad edge behind the others; how many bytes there are with the damage.
-fn with_damage(d: u64, n: usize, out: &mut [u8], len: usize) -> usize {
-    put(out, len, 1);
-    put(out, offset(len, 1), if d == ABSENT_IN_EDGE { n } else { 1 });
+// Byte i of an edge of one of the chosen fours.
+fn chosen_byte(seed: u64, chosen: &[u8], i: usize) -> usize {
+    let at = start(index(seed, WHICH, chosen.len() / 4), 4);
+    let k = offset(start(i, 2), index(seed, nth(POINT, i), 2));
+    byte_at(chosen, offset(at, k))
+}
+
+// Byte i of the kept edges, which have len bytes without a bad one behind them.
+fn kept_byte(seed: u64, d: u64, n: usize, chosen: &[u8], len: usize, i: usize) -> usize {
+    if i >= len {
+        return if (i > len) & (d == ABSENT_IN_EDGE) {
+            n
+        } else {
+            1
+        };
+    }
+    let style = drawn(seed, STYLE, 8);
+    if (i < 2) & ((style == 4) | (style == 5)) {
+        return chosen_byte(seed, chosen, i);
+    }
+    any_byte(seed, n, i)
+}
+
+// How many bytes there are with the damage.
+fn damaged_length(d: u64, len: usize) -> usize {
     match d {
         ABSENT_IN_EDGE | REPEATED_IN_EDGE => offset(len, 2),
         HALF_AN_EDGE => offset(len, 1),
@@ -90,11 +79,9 @@ fn with_damage(d: u64, n: usize, out: &mut [u8], len: usize) -> usize {
 
 // Puts the kept edges of a job of n points, with the damage, at the start of out; how many bytes that is.
 pub fn put_kept(seed: u64, d: u64, n: usize, chosen: &[u8], out: &mut [u8]) -> usize {
-    let count = how_many_edges(seed, d);
-    put_edges(seed, count, n, out);
-    if is_chosen_edge(seed) {
-        put_chosen_edge(seed, chosen, out);
-        return with_damage(d, n, out, start(count, 2));
+    let len = start(how_many_edges(seed, d), 2);
+    for i in 0..offset(len, 2) {
+        put(out, i, kept_byte(seed, d, n, chosen, len, i));
     }
-    with_damage(d, n, out, start(count, 2))
+    damaged_length(d, len)
 }

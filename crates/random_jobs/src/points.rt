@@ -8,6 +8,7 @@ use crate::damage::damage;
 use crate::random::drawn;
 use crate::random::nth;
 use enumerator::checker::is_taken;
+use enumerator::read::number_at;
 use enumerator::read::offset;
 use enumerator::read::put_number;
 use enumerator::read::start;
@@ -16,6 +17,8 @@ use enumerator::read::upto;
 const STYLE: u64 = 20;
 
 const COORDINATE: u64 = 1000;
+
+const AGAIN: u64 = 1024;
 
 // Whether the job is one with a void: a tetrahedron within a tetrahedron, of which the inner one is left empty.
 pub fn has_void(seed: u64) -> bool {
@@ -33,10 +36,6 @@ pub fn size(seed: u64) -> usize {
         9..=10 => 6,
         _ => 7,
     }
-}
-
-fn whole(v: u64) -> i32 {
-    if v < 1000 { v as i32 } else { 0 }
 }
 
 // v + w, for small ones.
@@ -64,10 +63,10 @@ fn centred(v: u64) -> i32 {
 
 fn coordinate(seed: u64, place: u64) -> i32 {
     match drawn(seed, STYLE, 5) {
-        0 => whole(drawn(seed, place, 3)),
-        1 => whole(drawn(seed, place, 5)),
+        0 => sum(0, drawn(seed, place, 3)),
+        1 => sum(0, drawn(seed, place, 5)),
         2 => centred(drawn(seed, place, 7)),
-        3 => whole(drawn(seed, place, 10)),
+        3 => sum(0, drawn(seed, place, 10)),
         _ => sum(2, drawn(seed, place, 12)),
     }
 }
@@ -114,21 +113,6 @@ fn shell_coordinate(seed: u64, i: usize) -> i32 {
     sum(v, drawn(seed, nth(COORDINATE, i), 3))
 }
 
-// How many coordinates of the shells the job has: both, the outer one, or none.
-fn shell_coordinates(seed: u64) -> usize {
-    if has_void(seed) {
-        return 24;
-    }
-    if is_nested(seed) { 12 } else { 0 }
-}
-
-// Puts the first n coordinates of the shells.
-fn put_shells(seed: u64, n: usize, out: &mut [i32]) {
-    for i in 0..n {
-        put_number(out, i, shell_coordinate(seed, i));
-    }
-}
-
 fn put_point(seed: u64, p: usize, row: u64, out: &mut [i32]) {
     let at = start(p, 3);
     for i in 0..3 {
@@ -139,16 +123,9 @@ fn put_point(seed: u64, p: usize, row: u64, out: &mut [i32]) {
 
 // Point p, drawn again where an earlier one is in its place, but once only: now and then two points stay in one place.
 fn put_fresh_point(seed: u64, p: usize, out: &mut [i32]) {
-    for t in 0..2 {
-        put_point(
-            seed,
-            p,
-            nth(COORDINATE, offset(start(t, 12), start(t, 12))),
-            out,
-        );
-        if !is_taken(out, p) {
-            return;
-        }
+    put_point(seed, p, COORDINATE, out);
+    if is_taken(out, p) {
+        put_point(seed, p, AGAIN, out);
     }
 }
 
@@ -158,14 +135,23 @@ fn put_all(seed: u64, out: &mut [i32]) {
     }
 }
 
-// A coordinate out of range.
-fn put_far(d: u64, out: &mut [i32]) {
-    if d == FAR {
-        put_number(out, 4, 10_001);
-        return;
+// Coordinate i where v was drawn: out of range, one of the shells (both of them, or the outer one), or v.
+fn placed(seed: u64, d: u64, i: usize, v: i32) -> i32 {
+    if (d == FAR) & (i == 4) {
+        return 10_001;
     }
-    if d == FAR_BELOW {
-        put_number(out, 2, -10_001);
+    if (d == FAR_BELOW) & (i == 2) {
+        return -10_001;
+    }
+    if has_void(seed) | (is_nested(seed) & (i < 12)) {
+        return shell_coordinate(seed, i);
+    }
+    v
+}
+
+fn put_placed(seed: u64, d: u64, out: &mut [i32]) {
+    for i in 0..24 {
+        put_number(out, i, placed(seed, d, i, number_at(out, i)));
     }
 }
 
@@ -188,7 +174,6 @@ fn how_many_coordinates(seed: u64, d: u64) -> usize {
 pub fn put_points(seed: u64, out: &mut [i32]) -> usize {
     let d = damage(seed);
     put_all(seed, out);
-    put_shells(seed, shell_coordinates(seed), out);
-    put_far(d, out);
+    put_placed(seed, d, out);
     how_many_coordinates(seed, d)
 }

@@ -12,6 +12,7 @@ use enumerator::fours::after;
 use enumerator::fours::first;
 use enumerator::fours::how_many;
 use enumerator::fours::is_listed;
+use enumerator::read::number_at;
 use enumerator::read::put_number;
 use enumerator::read::up;
 use geometry::tetrahedron::Four;
@@ -78,12 +79,22 @@ fn put_entries(seed: u64, points: &[i32], chosen: &[u8], out: &mut [i32]) {
     }
 }
 
-fn put_damage(d: u64, k: usize, out: &mut [i32]) {
+// What the damage puts for the entry v.
+fn damaged(d: u64, v: i32) -> i32 {
     match d {
-        ENTRY_LOW => put_number(out, k, -2),
-        ENTRY_HIGH => put_number(out, k, 1_000_001),
-        UNMEASURED => put_number(out, k, -1),
-        _ => {}
+        ENTRY_LOW => -2,
+        ENTRY_HIGH => 1_000_001,
+        UNMEASURED => -1,
+        _ => v,
+    }
+}
+
+// How many entries the damage leaves of so many.
+fn left_of(d: u64, many: usize) -> usize {
+    match d {
+        ENTRY_MISSING => many / 2,
+        ENTRY_TOO_MANY => up(many),
+        _ => many,
     }
 }
 
@@ -91,12 +102,7 @@ fn put_damage(d: u64, k: usize, out: &mut [i32]) {
 pub fn put_table(seed: u64, d: u64, points: &[i32], chosen: &[u8], out: &mut [i32]) -> usize {
     let many = how_many(points.len() / 3);
     put_entries(seed, points, chosen, out);
-    put_damage(d, index(seed, HURT, many), out);
-    if d == ENTRY_MISSING {
-        return many / 2;
-    }
-    if d == ENTRY_TOO_MANY {
-        return up(many);
-    }
-    many
+    let k = index(seed, HURT, many);
+    put_number(out, k, damaged(d, number_at(out, k)));
+    left_of(d, many)
 }

@@ -7,31 +7,25 @@ use Rattle.compare.proofs.limits.put_open.Statement.{statement}
 use Rattle.compare.proofs.limits.put_open.Tie as tie
 
 abbrev Inv-loop : tie.InvT-loop
-Inv-loop n list out₀ f₀ k₀ k-end out f k = length out ≡ length out₀
+Inv-loop n list out₀ i₀ i-end out i = length out ≡ length out₀
 
 abbrev μ-loop : tie.MeasureT-loop
-μ-loop n list out₀ f₀ k₀ k-end out f k = k-end - k
-
-first-requires : tie.Need-first-requires Inv-loop μ-loop
-first-requires c κs = search needs
-
-how-many-requires : tie.Need-how-many-requires Inv-loop μ-loop
-how-many-requires c κs = search needs
+μ-loop n list out₀ i₀ i-end out i = i-end - i
 
 loop-holds : tie.Need-loop-holds Inv-loop μ-loop
 loop-holds c = search needs
 
-is-listed-requires : tie.Need-is-listed-requires Inv-loop μ-loop
-is-listed-requires c κs = search needs
+listed-requires : tie.Need-listed-requires Inv-loop μ-loop
+listed-requires c κs = search needs
+
+place-of-requires : tie.Need-place-of-requires Inv-loop μ-loop
+place-of-requires c κs = search needs
 
 put-number-requires : tie.Need-put-number-requires Inv-loop μ-loop
 put-number-requires c κs = search needs
 
-after-requires : tie.Need-after-requires Inv-loop μ-loop
-after-requires c κs = search needs
-
-add-k : tie.Need-add-k Inv-loop μ-loop
-add-k c = search needs
+add-i : tie.Need-add-i Inv-loop μ-loop
+add-i c = search needs
 
 loop-less : tie.Need-loop-less Inv-loop μ-loop
 loop-less c = search needs
@@ -51,13 +45,11 @@ put-open-spec =
     (tie.spec
     Inv-loop
     μ-loop
-    first-requires
-    how-many-requires
     loop-holds
-    is-listed-requires
+    listed-requires
+    place-of-requires
     put-number-requires
-    after-requires
-    add-k
+    add-i
     loop-less
     loop-again
     same-length

@@ -16,9 +16,6 @@ loop-holds c = search needs
 triangle-at-requires : tie.Need-triangle-at-requires Inv-loop μ-loop
 triangle-at-requires c κs = search needs
 
-runs-requires : tie.Need-runs-requires Inv-loop μ-loop
-runs-requires c κs = search needs
-
 up-requires : tie.Need-up-requires Inv-loop μ-loop
 up-requires c κs = search needs
 
@@ -42,7 +39,6 @@ how-often-spec =
     μ-loop
     loop-holds
     triangle-at-requires
-    runs-requires
     up-requires
     add-i
     loop-less

@@ -10,9 +10,6 @@ Inv-loop points triangles kept table pool best₀ s₀ s-end best s = Unit {0}
 abbrev μ-loop : tie.MeasureT-loop
 μ-loop points triangles kept table pool best₀ s₀ s-end best s = s-end - s
 
-found-requires : tie.Need-found-requires Inv-loop μ-loop
-found-requires c κs = search needs
-
 subsets-requires : tie.Need-subsets-requires Inv-loop μ-loop
 subsets-requires c κs = search needs
 
@@ -40,7 +37,6 @@ best-filling-spec =
     (tie.spec
     Inv-loop
     μ-loop
-    found-requires
     subsets-requires
     loop-holds
     tried-requires

@@ -18,6 +18,9 @@ loop-holds c = search needs
 listed-requires : tie.Need-listed-requires Inv-loop μ-loop
 listed-requires c κs = search needs
 
+turned-requires : tie.Need-turned-requires Inv-loop μ-loop
+turned-requires c κs = search needs
+
 start-requires : tie.Need-start-requires Inv-loop μ-loop
 start-requires c κs = search needs
 
@@ -47,6 +50,7 @@ put-faces-spec =
     μ-loop
     loop-holds
     listed-requires
+    turned-requires
     start-requires
     put-four-faces-requires
     add-i

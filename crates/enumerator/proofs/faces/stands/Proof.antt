@@ -5,10 +5,10 @@ use Rattle.enumerator.proofs.faces.stands.Statement.{statement}
 use Rattle.enumerator.proofs.faces.stands.Tie as tie
 
 abbrev Inv-loop : tie.InvT-loop
-Inv-loop list t i₀ i-end i = Unit {0}
+Inv-loop list from t i₀ i-end i = Unit {0}
 
 abbrev μ-loop : tie.MeasureT-loop
-μ-loop list t i₀ i-end i = i-end - i
+μ-loop list from t i₀ i-end i = i-end - i
 
 loop-holds : tie.Need-loop-holds Inv-loop μ-loop
 loop-holds c = search needs

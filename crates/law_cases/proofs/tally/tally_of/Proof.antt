@@ -32,9 +32,6 @@ after-requires-2 c κs = search needs
 with-line-requires : tie.Need-with-line-requires Inv-loop μ-loop
 with-line-requires c κs = search needs
 
-print-difference-requires : tie.Need-print-difference-requires Inv-loop μ-loop
-print-difference-requires c κs = search needs
-
 past-requires : tie.Need-past-requires Inv-loop μ-loop
 past-requires c κs = search needs
 
@@ -69,7 +66,6 @@ tally-of-spec =
     after-requires
     after-requires-2
     with-line-requires
-    print-difference-requires
     past-requires
     sub-rest
     part-rest-start

@@ -18,14 +18,14 @@ loop-holds c = search needs
 triangle-at-requires : tie.Need-triangle-at-requires Inv-loop μ-loop
 triangle-at-requires c κs = search needs
 
-reversed-requires : tie.Need-reversed-requires Inv-loop μ-loop
-reversed-requires c κs = search needs
+side-requires : tie.Need-side-requires Inv-loop μ-loop
+side-requires c κs = search needs
 
 put-triangle-requires : tie.Need-put-triangle-requires Inv-loop μ-loop
 put-triangle-requires c κs = search needs
 
-reversed-requires-2 : tie.Need-reversed-requires-2 Inv-loop μ-loop
-reversed-requires-2 c κs = search needs
+reversed-requires : tie.Need-reversed-requires Inv-loop μ-loop
+reversed-requires c κs = search needs
 
 stands-requires : tie.Need-stands-requires Inv-loop μ-loop
 stands-requires c κs = search needs
@@ -56,9 +56,9 @@ put-unmatched-spec =
     μ-loop
     loop-holds
     triangle-at-requires
-    reversed-requires
+    side-requires
     put-triangle-requires
-    reversed-requires-2
+    reversed-requires
     stands-requires
     offset-requires
     add-i
