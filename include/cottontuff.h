@@ -1,5 +1,5 @@
 /* Cottontuff, the cavity kernel, for C and C++: refills a hole in a tetrahedral mesh with the tetrahedra whose worst quality is best. Its answers are proved.
- * `make` builds the static library and a pkg-config file (README.md); it links with nothing else.
+ * `make` builds the static library and a pkg-config file (README.md). Of the C library it needs memcpy and memset, and nothing else.
  *
  * A complete example; tests/header compiles it as C and as C++, runs it, and compares what it prints with what stands below it.
 
@@ -92,7 +92,7 @@ enum cottontuff_number {
     COTTONTUFF_BAD_TET = 18,         /* mesh: a tetrahedron is flat, or has an absent or repeated point */
     COTTONTUFF_SHARED_FACE = 19,     /* mesh: an outward face belongs to two tetrahedra */
     COTTONTUFF_NO_SUCH_TET = 20,     /* open: there is no tetrahedron of that number */
-    COTTONTUFF_NO_MESH = 31,         /* open, grow, replace, close: no mesh is loaded, or the value is none that the bench gave */
+    COTTONTUFF_NO_MESH = 31,         /* open, grow, replace, close: the value holds no mesh: none was loaded, or it is not sound (the bench, below) */
     COTTONTUFF_CAVITY_OPEN = 32,     /* load, open: a cavity is open */
     COTTONTUFF_NO_CAVITY = 33,       /* grow, replace, close: none is open */
     COTTONTUFF_CAVITY_FULL = 34,     /* grow: 16 points already */
@@ -155,8 +155,9 @@ cottontuff_measured cottontuff_measure(const int32_t *coordinates, size_t coordi
 size_t cottontuff_print(const uint8_t *text, size_t text_len, uint8_t *out, size_t out_len);
 
 /* ---- the bench: a mesh and at most one open cavity, handed over and back by value
- * Every operation takes any value, also one that was never made by the bench: what load would refuse, or whose cavity is none of the mesh,
- * counts as holding no mesh and no cavity. A refusal gives back the value as it came. */
+ * Every operation takes any value, and what counts is what it holds, not who made it. It is sound if load would take its points and tetrahedra, each quality is
+ * the measured one, and, where a cavity is open, that has at least one tetrahedron and at most 16 points, its points are the corners of its tetrahedra, and it has
+ * every tetrahedron whose four corners are among them. Any other value counts as holding no mesh and no cavity. A refusal gives back the value as it came. */
 typedef struct {
     int32_t points[3 * COTTONTUFF_BENCH_POINTS];
     uint8_t tets[4 * COTTONTUFF_BENCH_TETS];     /* four point numbers each, corners as given */

@@ -2,7 +2,7 @@
 //!
 //! `rt staticlib cottontuff` writes target/staticlib/libcottontuff.a; then `rustc -L native=target/staticlib` links a crate that has this file as a module.
 //! Every function takes any lists and answers: a filling, a verdict, or a `Number`. Nothing here panics on an input, and a refusal changes no lent byte.
-//! The search wants a thread with 1.5 MB of stack; threads of std have 2 MB.
+//! The search, the printout and `Bench::replace` want a thread with 1.5 MB of stack; threads of std have 2 MB.
 //!
 //! ```
 //! use cottontuff::{search, Job, Number};
@@ -345,7 +345,9 @@ pub fn print(text: &[u8]) -> Vec<u8> {
 
 /// The mesh bench: a mesh of 4 to 64 points and 1 to 256 tetrahedra, all measured, and perhaps an open cavity. A plain value, handed over and back.
 ///
-/// The fields may be set to anything: a value that is no bench is treated as holding no mesh and no cavity, and `load` starts it anew.
+/// The fields may be set to anything, and what counts is what they hold. A value whose mesh `load` would take, with the measured qualities and, where a cavity is
+/// open, one of at least one tetrahedron and at most 16 points that has every tetrahedron within its points, is taken as it is; any other is treated as holding no
+/// mesh and no cavity, and `load` may load.
 #[repr(C)]
 #[derive(Clone, Copy, Debug, PartialEq, Eq)]
 pub struct Bench {
