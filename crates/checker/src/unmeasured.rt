@@ -4,7 +4,6 @@ use crate::table::entry;
 use geometry::tetrahedron::Four;
 use geometry::tetrahedron::is_solid;
 ghost use mathlib.Core.Path.{_≡_};
-ghost use mathlib.Core.List.{[]};
 ghost use Prim.Native.Nat.{_/_, _<_};
 ghost use lib.ListN.{length};
 ghost use Rattle.laws.specs.Check.{job, solid-unmeasured};

@@ -3,9 +3,9 @@ use mathlib.Core.Path.{_≡_, refl, ap, _∙_}
 use mathlib.Core.List.{List}
 use Prim.Native.Nat.{ℕ}
 use lib.IntN.{ℤ}
-use Rattle.geometry.specs.Measure.{number-of, millionths-of, Measures}
+use Rattle.geometry.specs.Measure.{number-of, flat-of, millionths-of, Measures}
 use Rattle.geometry.specs.declared.measure.Measured.{Measured}
-use Rattle.cottontuff.specs.Measured.{flat-of, in-one, measured-for-c}
+use Rattle.cottontuff.specs.Measured.{in-one, measured-for-c}
 
 parts-are :
     (m : Measured) {n f k : ℕ} → n ≡ number-of (m .answer) → f ≡ flat-of (m .answer) → k ≡ millionths-of (m .answer) →

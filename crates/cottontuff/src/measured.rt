@@ -1,10 +1,10 @@
 // A measurement in one struct for C. Assumes nothing.
-use geometry::measure::Measurement;
+use geometry::measure::flat_of;
 use geometry::measure::measure;
 use geometry::measure::millionths_of;
 use geometry::measure::number_of;
 ghost use mathlib.Core.Path.{_≡_};
-ghost use Rattle.cottontuff.specs.Measured.{flat-of, measured-for-c};
+ghost use Rattle.cottontuff.specs.Measured.{measured-for-c};
 
 // number: 0, or 3 or 16, and then the rest is 0. flat: 1 or 0.
 #[repr(C)]
@@ -17,17 +17,7 @@ pub struct Measured {
     pub millionths: u32,
 }
 
-fn flat_of(answer: Measurement) -> u32
-    ensures { λ r. ⌜ r ≡ flat-of answer ⌝ }
-{
-    match answer {
-        Measurement::Refused(_) => 0,
-        Measurement::Flat => 1,
-        Measurement::Shape(_) => 0,
-    }
-}
-
-pub fn measure_for_c(coordinates: &[i32]) -> Measured
+pub(crate) fn measure_for_c(coordinates: &[i32]) -> Measured
     ensures { λ r. ⌜ r ≡ measured-for-c (now (coordinates .entry)) ⌝ }
 {
     let m = measure(coordinates);

@@ -5,7 +5,6 @@ use mathlib.Core.List.{List}
 use Prim.Native.Nat.{ℕ, zero, suc, _/_, _%_}
 use lib.Dec.{eqb}
 use lib.ListN.{length}
-use lib.IntN.{ℤ}
 use Rattle.laws.specs.Laws.{Job, broken, worst, fours-in}
 use Rattle.laws.specs.Lists.{Lists}
 use Rattle.laws.specs.Alike.{Alike}

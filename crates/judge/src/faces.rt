@@ -9,7 +9,6 @@ use geometry::tetrahedron::Four;
 use geometry::tetrahedron::oriented;
 ghost use mathlib.Core.Path.{_≡_};
 ghost use mathlib.Core.Bool.{false};
-ghost use mathlib.Core.List.{[]};
 ghost use Prim.Native.Nat.{_<_};
 ghost use lib.ListN.{length};
 ghost use Rattle.geometry.specs.Space.{points-in};

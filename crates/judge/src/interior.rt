@@ -6,7 +6,6 @@ use geometry::tetrahedron::Four;
 use geometry::tetrahedron::is_inside;
 use geometry::tetrahedron::oriented;
 ghost use mathlib.Core.Path.{_≡_};
-ghost use mathlib.Core.List.{[]};
 ghost use Prim.Native.Nat.{_+_, _/_, _<_};
 ghost use lib.ListN.{length};
 ghost use Rattle.geometry.specs.Range.{Present};

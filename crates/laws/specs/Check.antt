@@ -1,15 +1,12 @@
 -- What the checker refuses: numbers 2 to 13. Assumes nothing: these are definitions.
-use mathlib.Core.Path.{_≡_}
 use mathlib.Core.Bool.{Bool, true, false, _&&_, _||_, not, cond}
-use mathlib.Core.List.{List, [], _∷_, _++_}
-use mathlib.Core.Option.{Option, none, some}
-use Prim.Native.Nat.{ℕ, zero, suc, _+_, _*_, _-_, _/_, _%_, _^_, _≤_, _<_, min}
+use mathlib.Core.List.{List, [], _∷_}
+use Prim.Native.Nat.{ℕ, zero, suc, _+_, _-_, _/_, _%_}
 use lib.Dec.{ltb, leb, eqb}
-use lib.ListN.{length, getD, set, take, drop, replicate}
+use lib.ListN.{length, getD, drop}
 use lib.IntN.{ℤ, pos, negsuc}
 use Rattle.geometry.specs.Range.{any-far}
-use Rattle.geometry.specs.Space.{V3, four, point, points-in, solid, same-place}
-use Rattle.geometry.specs.declared.tetrahedron.Four.{Four}
+use Rattle.geometry.specs.Space.{V3, four, points-in, solid, same-place}
 use Rattle.laws.specs.Laws.{Job, Tri, tri, Edge, choose, entry, same-tri, reversed}
 use Rattle.laws.specs.Lists.{Lists}
 

@@ -2,12 +2,11 @@
 use mathlib.Core.Path.{_≡_}
 use mathlib.Core.Bool.{Bool, true, false, _&&_, _||_, not, cond}
 use mathlib.Core.List.{List, [], _∷_, _++_}
-use mathlib.Core.Option.{Option, none, some}
-use Prim.Native.Nat.{ℕ, zero, suc, _+_, _*_, _-_, _/_, _%_, _^_, _≤_, _<_, min}
-use lib.Dec.{ltb, leb, eqb}
-use lib.ListN.{length, getD, set, take, drop, replicate}
+use Prim.Native.Nat.{ℕ, zero, suc, _+_, _-_, _≤_, min}
+use lib.Dec.{ltb, eqb}
+use lib.ListN.{length, getD, drop}
 use lib.IntN.{ℤ, pos, negsuc}
-use Rattle.geometry.specs.Space.{V3, four, point, points-in, solid, turned, inside, apart, same-place}
+use Rattle.geometry.specs.Space.{V3, four, solid, turned, inside, apart}
 use Rattle.geometry.specs.declared.tetrahedron.Four.{Four}
 
 pub record Tri : Type 0 where

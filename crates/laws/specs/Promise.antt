@@ -1,15 +1,12 @@
 -- What is promised of fillings. Each statement is a type, proved in proofs/Choice/Promises. Assumes nothing.
 use mathlib.Core.Path.{_≡_}
-use mathlib.Core.Bool.{Bool, true, false, _&&_, _||_, not, cond}
-use mathlib.Core.List.{List, [], _∷_, _++_}
-use mathlib.Core.Option.{Option, none, some}
-use Prim.Native.Nat.{ℕ, zero, suc, _+_, _*_, _-_, _/_, _%_, _^_, _≤_, _<_, min}
-use lib.Dec.{ltb, leb, eqb}
-use lib.ListN.{length, getD, set, take, drop, replicate}
-use lib.IntN.{ℤ}
-use Rattle.geometry.specs.Space.{Z, z, plus, equal, four, D, turned, V3}
+use mathlib.Core.Bool.{true}
+use mathlib.Core.List.{List, [], _∷_}
+use Prim.Native.Nat.{ℕ, _-_, _≤_, _<_}
+use lib.ListN.{length}
+use Rattle.geometry.specs.Space.{Z, z, plus, equal, D, turned, V3}
 use Rattle.geometry.specs.declared.tetrahedron.Four.{Four}
-use Rattle.laws.specs.Laws.{Job, lawful, worst, Best, list-before, place, choose, rising, four-before, bytes, fours-in}
+use Rattle.laws.specs.Laws.{Job, lawful, Best, place, choose, rising, four-before, bytes, fours-in}
 use Rattle.laws.specs.Lists.{Lists}
 use Rattle.laws.specs.Check.{job, job-refusal}
 

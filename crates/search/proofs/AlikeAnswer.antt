@@ -1,13 +1,13 @@
 -- Jobs that are alike get the same answer: they have the same best filling, or none. Assumes nothing.
 use mathlib.Core.Path.{_≡_, sym, subst, ap, _∙_}
-use mathlib.Core.Bool.{true, false, cond}
+use mathlib.Core.Bool.{true, cond}
 use mathlib.Core.List.{List}
 use Prim.Native.Nat.{ℕ, zero, suc}
 use native.Mathlib.Omega.{arith}
 use lib.Dec.{ltb, eqb}
 use lib.ListN.{length}
 use Rattle.geometry.specs.declared.tetrahedron.Four.{Four}
-use Rattle.laws.specs.Laws.{Best, lawful, worst}
+use Rattle.laws.specs.Laws.{Best, lawful}
 use Rattle.laws.specs.Lists.{Lists}
 use Rattle.laws.specs.Alike.{Alike}
 use Rattle.laws.specs.Check.{job, job-refusal}

@@ -1,5 +1,4 @@
 -- A pool made of what is left alive of another: it is a pool, and it has the fours of the same fillings. Assumes nothing.
-use mathlib.Core.Path.{_≡_}
 use mathlib.Core.Logic.{_⊎_, inl, inr}
 use mathlib.Core.List.{List}
 use Prim.Native.Nat.{ℕ, _≤_}

@@ -1,17 +1,17 @@
 -- What the table of face numbers says of owners. Assumes nothing.
 use mathlib.Core.Path.{_≡_, sym, subst, _∙_}
-use mathlib.Core.Bool.{Bool, true, false, _||_, cond}
-use mathlib.Core.List.{List, [], _∷_}
+use mathlib.Core.Bool.{true}
+use mathlib.Core.List.{List}
 use Prim.Native.Nat.{ℕ, zero, suc, _≤_, _<_}
 use native.Mathlib.Omega.{arith}
 use lib.ListN.{length, getD}
-use Rattle.geometry.specs.Space.{V3, turned, four, D, above, zero-z}
+use Rattle.geometry.specs.Space.{V3, turned}
 use Rattle.geometry.specs.declared.tetrahedron.Four.{Four}
 use Rattle.laws.specs.Laws.{Tri, tri, faces, all-faces, has}
 use Rattle.laws.specs.inner.Members.{Any, here, there}
-use Rattle.laws.proofs.Basics.Lists.{Each, none, more, find, any-of-member, each-at-member}
+use Rattle.laws.proofs.Basics.Lists.{Each, more, find, any-of-member, each-at-member}
 use Rattle.laws.proofs.Faces.Triangles.{Has, has-true, has-of}
-use Rattle.laws.proofs.Order.Sorted.{Well-formed, increasing}
+use Rattle.laws.proofs.Order.Sorted.{Well-formed}
 use Rattle.laws.proofs.Faces.Owners.{face-owner, owned-face}
 use Rattle.laws.specs.inner.FaceCodes.{face-code, Proper}
 use Rattle.laws.proofs.Faces.ProperFaces.{faces-proper}

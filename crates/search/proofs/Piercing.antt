@@ -10,11 +10,10 @@ use lib.IntN.{ℤ, pos, negsuc}
 use lib.Signed.{mag, ltZ}
 use mir.Syntax.{w64}
 use mir.Val.{toZ, ofZ, hbits}
-use Rattle.geometry.specs.Space.{Z, V3, D, above, zero-z}
+use Rattle.geometry.specs.Space.{Z, V3, D, above, zero-z, value}
 use Rattle.geometry.specs.declared.tetrahedron.Four.{Four}
-use Rattle.geometry.specs.Vectors.{value}
-use Rattle.geometry.proofs.Machine.{kept}
-use Rattle.geometry.proofs.Value.{value-above, value-positive}
+use Rattle.geometry.proofs.Numbers.Machine.{kept}
+use Rattle.geometry.proofs.Numbers.Value.{value-above, value-positive}
 use Rattle.laws.specs.Laws.{Edge}
 use Rattle.laws.specs.Lists.{job-lists}
 use Rattle.laws.specs.Check.{job, edges-in}

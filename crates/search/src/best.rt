@@ -2,14 +2,13 @@
 ghost use mathlib.Core.Path.{_≡_};
 ghost use mathlib.Core.Bool.{true, false};
 ghost use Prim.Native.Nat.{suc, _+_, _*_, _/_, _<_, _≤_};
-ghost use lib.ListN.{length, getD};
+ghost use lib.ListN.{length};
 ghost use Rattle.geometry.specs.Range.{Present};
-ghost use Rattle.laws.specs.Laws.{choose, fours-in, worst, lawful};
+ghost use Rattle.laws.specs.Laws.{choose, worst};
 ghost use Rattle.laws.specs.Lists.{job-lists};
 ghost use Rattle.laws.specs.Check.{job, job-refusal};
 ghost use Rattle.laws.specs.inner.NextFour.{Ordered};
 ghost use Rattle.search.specs.inner.Codes.{Bound-flags};
-ghost use Rattle.search.specs.inner.Marks.{marked};
 ghost use Rattle.search.specs.inner.Tables.{All-below, Rim, Whole, Alive-from, Between, Attempted, Highest, Least-set};
 use crate::extend::face;
 use crate::marks::Marks;

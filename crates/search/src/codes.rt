@@ -1,7 +1,7 @@
 // Directed triangles by number: turned so that the least point comes first, as three digits to the base 16.
 ghost use mathlib.Core.Path.{_≡_};
 ghost use Prim.Native.Nat.{_*_, _/_, _<_, _≤_};
-ghost use lib.ListN.{length, getD};
+ghost use lib.ListN.{length};
 ghost use Rattle.laws.specs.Laws.{tri};
 ghost use Rattle.laws.specs.inner.FaceCodes.{face-code, flip-code};
 ghost use Rattle.search.specs.inner.Tables.{All-below, Rim, Named};

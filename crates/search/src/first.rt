@@ -1,6 +1,6 @@
 // The first list among the best: fours are committed in order, each in the witness or tried.
 ghost use mathlib.Core.Path.{_≡_};
-ghost use Prim.Native.Nat.{suc, _<_, _≤_};
+ghost use Prim.Native.Nat.{suc};
 ghost use lib.ListN.{length};
 ghost use Rattle.laws.specs.Laws.{fours-in, Best};
 ghost use Rattle.laws.specs.Lists.{job-lists};

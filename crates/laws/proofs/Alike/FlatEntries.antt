@@ -1,22 +1,22 @@
 -- The entry of a flat four is never used beyond 12: tables that differ at flat fours alone give the same answers. Assumes nothing.
 use mathlib.Core.Path.{_≡_, refl, sym, subst, ap, _∙_}
-use mathlib.Core.Bool.{Bool, true, false, _&&_, not, cond}
+use mathlib.Core.Bool.{Bool, true, false, _&&_}
 use mathlib.Core.Logic.{_⊎_, inl, inr}
 use mathlib.Core.List.{List, [], _∷_}
-use Prim.Native.Nat.{ℕ, suc, _-_, _≤_, _<_, min}
+use Prim.Native.Nat.{ℕ, suc, _-_, _<_, min}
 use native.Mathlib.Omega.{arith}
 use borrow.Author.Tests.{lt-ltb}
-use lib.Dec.{ltb, eqb}
+use lib.Dec.{ltb}
 use lib.ListN.{length}
 use lib.IntN.{ℤ}
 use Rattle.geometry.specs.Space.{V3, four, solid}
 use Rattle.geometry.specs.declared.tetrahedron.Four.{Four}
-use Rattle.laws.specs.Laws.{Job, choose, rising, entry, quality, law-1, law-2, law-4, law-6, law-7, broken, lawful, worst, worst-from}
+use Rattle.laws.specs.Laws.{Job, rising, entry, quality, law-1, law-2, law-4, law-6, law-7, broken, lawful, worst, worst-from}
 use Rattle.laws.specs.Lists.{Lists}
 use Rattle.laws.specs.Check.{over, unmeasured, solid-unmeasured, any-entry-bad, job, refusal, first-refusal, refusals, job-refusal}
 use Rattle.laws.specs.Alike.{Alike, Flat-entries-differ, Flat-unused}
 use Rattle.laws.proofs.Basics.Tests.{and-of, and-true, true-or-false}
-use Rattle.laws.proofs.Basics.Lists.{Each, more, none}
+use Rattle.laws.proofs.Basics.Lists.{Each, more}
 use Rattle.laws.proofs.Basics.Ranges.{over-same}
 use Rattle.laws.proofs.Order.Sorted.{Well-formed, law-1-well-formed}
 use Rattle.laws.proofs.Choice.Conditions.{keeps}

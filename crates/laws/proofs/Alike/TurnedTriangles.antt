@@ -3,15 +3,15 @@ use mathlib.Core.Path.{_≡_, refl, sym, subst, ap, _∙_}
 use mathlib.Core.Bool.{Bool, true, false, _&&_, _||_, not, cond}
 use mathlib.Core.Logic.{_⊎_, inl, inr}
 use mathlib.Core.List.{List, [], _∷_}
-use Prim.Native.Nat.{ℕ, _+_, _≤_}
+use Prim.Native.Nat.{ℕ, _+_}
 use native.Mathlib.Omega.{arith}
-use borrow.Author.Tests.{eq-eqb, eqb-true, ne-eqb}
+use borrow.Author.Tests.{eq-eqb, ne-eqb}
 use native.Mathlib.Decide.{ℕ-discrete}
 use lib.Dec.{leb, eqb}
 use lib.ListN.{length}
 use lib.IntN.{ℤ}
 use Rattle.geometry.specs.declared.tetrahedron.Four.{Four}
-use Rattle.laws.specs.Laws.{Job, Tri, Edge, same-tri, reversed, has, all-in, matched, all-faces, law-1, law-4, law-6, law-7, broken, lawful, worst}
+use Rattle.laws.specs.Laws.{Tri, Edge, same-tri, reversed, has, all-in, matched, all-faces, law-4, law-6, law-7, broken, worst}
 use Rattle.laws.specs.Lists.{Lists}
 use Rattle.laws.specs.Check.{tri-bad, any-tri-bad, tri-taken, tris-alike, directed, how-often, unmatched, solid-unmeasured, job, refusal, first-refusal, refusals, job-refusal}
 use Rattle.laws.specs.Alike.{Alike, Turned-each, none-left, one-more, Triangles-turned, Turning-unseen}

@@ -4,8 +4,8 @@ use mathlib.Core.List.{List, [], _∷_, _++_}
 use Prim.Native.Nat.{_+_, ℕ, suc, zero}
 use native.Mathlib.Omega.{arith}
 use lib.IntN.{ℤ, pos, _+ℤ_, +ℤ-idl, +ℤ-assoc, _-ℤ_, +ℤ-invr, negsuc, negℤ, pos-ne-negsuc}
-use Rattle.geometry.proofs.Ring.{ring, var, _⊕_, _⊖_}
-use Rattle.geometry.proofs.Volume.{Positive}
+use Rattle.geometry.proofs.Numbers.Ring.{ring, var, _⊕_, _⊖_}
+use Rattle.geometry.proofs.Space.Volume.{Positive}
 use Rattle.laws.proofs.Basics.Lists.{Each, more, none}
 use Rattle.laws.proofs.Basics.Interleaving.{Interleaving, done, left, right}
 

@@ -1,11 +1,9 @@
 -- Numbers 2 to 13 in their order: a test that refuses ends the chain, one that passes leaves the rest of it. Assumes nothing.
 use mathlib.Core.Path.{_≡_, refl, sym, ap, _∙_}
 use mathlib.Core.Bool.{Bool, true, false, not, cond}
-use mathlib.Core.List.{List, []}
 use Prim.Native.Nat.{ℕ, _/_}
 use lib.Dec.{eqb}
 use lib.ListN.{length}
-use lib.IntN.{ℤ}
 use Rattle.geometry.specs.Range.{any-far}
 use Rattle.geometry.specs.Space.{points-in}
 use Rattle.laws.specs.Laws.{choose}

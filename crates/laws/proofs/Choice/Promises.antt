@@ -1,5 +1,5 @@
 -- What specs/Promise.antt promises of fillings, proved. Assumes nothing.
-use mathlib.Core.Path.{_≡_, refl, sym, _∙_}
+use mathlib.Core.Path.{_≡_, sym, _∙_}
 use mathlib.Core.Bool.{true, _&&_}
 use lib.Dec.{eqb, leb}
 use native.Mathlib.Nat.{le-antisymm}
@@ -8,7 +8,7 @@ use lib.ListN.{length}
 use mathlib.Core.Logic.{_⊎_, inl, inr}
 use Prim.Native.Nat.{_%_}
 use borrow.Author.Tests.{leb-true}
-use Rattle.geometry.proofs.Value.{value-equal}
+use Rattle.geometry.proofs.Numbers.Value.{value-equal}
 use Rattle.laws.specs.Laws.{worst, four-before, place}
 use Rattle.laws.specs.Promise.{Best-alone, Places-right, Places-rise, Fits, Best-there, sum-D, Same-space}
 use Rattle.laws.specs.Check.{job}

@@ -4,7 +4,6 @@ use mathlib.Core.Bool.{Bool, true, false, not, cond}
 use mathlib.Core.List.{List, [], _∷_}
 use Prim.Native.Nat.{ℕ, _/_}
 use lib.ListN.{length}
-use lib.IntN.{ℤ}
 use Rattle.geometry.specs.declared.tetrahedron.Four.{Four}
 use Rattle.laws.specs.Laws.{Job, entry, law-1, law-2, law-3, law-4, law-5, law-6, law-7, corners-from, all-kept, broken, worst-from}
 use Rattle.laws.specs.Lists.{Lists, points-only, with-triangles, with-table}

@@ -1,7 +1,7 @@
 -- The quality of a four by the table, as the functions compute it. Assumes nothing.
 use mathlib.Core.Path.{_≡_, refl, sym, subst, ap, _∙_}
 use mathlib.Core.Bool.{Bool, true, false, _&&_, not, true≢false}
-use mathlib.Core.List.{List, []}
+use mathlib.Core.List.{List}
 use Prim.Native.Nat.{ℕ, _/_, _^_, _<_, min}
 use borrow.Author.Tests.{ltb-true, not-true, not-false}
 use native.Mathlib.Omega.{arith}
@@ -13,7 +13,7 @@ use mir.Syntax.{w32}
 use mir.Val.{Fits, toZ, ofZ, hbits}
 use Rattle.geometry.specs.Space.{points-in, solid}
 use Rattle.geometry.specs.declared.tetrahedron.Four.{Four}
-use Rattle.geometry.proofs.Machine.{kept-at}
+use Rattle.geometry.proofs.Numbers.Machine.{kept-at}
 use Rattle.laws.specs.Laws.{Job, place, entry, quality, worst, worst-from}
 use Rattle.laws.specs.Lists.{with-table}
 use Rattle.laws.specs.Check.{job}

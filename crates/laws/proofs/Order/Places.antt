@@ -16,7 +16,7 @@ use Rattle.laws.proofs.Basics.Tests.{and-true, or-true}
 use Rattle.laws.proofs.Basics.Lists.{Each, each-at-member, each-map, more}
 use Rattle.laws.specs.inner.NextFour.{Ordered}
 use Rattle.laws.proofs.Order.Sorted.{Well-formed, increasing, law-1-well-formed}
-use Rattle.laws.proofs.Order.Binomials.{choose-0, choose-1-rises, choose-digit, choose-monotone, pascal, pascal-down}
+use Rattle.laws.proofs.Order.Binomials.{choose-1-rises, choose-digit, choose-monotone, pascal}
 use Rattle.laws.proofs.Order.TablePlace.{place-rest}
 
 -- ---- how many fours come after one

@@ -3,7 +3,7 @@ use mathlib.Core.Path.{_≡_, refl, sym, ap, _∙_}
 use mathlib.Core.Logic.{_⊎_, inl, inr}
 use mathlib.Core.List.{List, [], _∷_}
 use lib.IntN.{ℤ, pos, negℤ, _+ℤ_, negℤ-+ℤ}
-use Rattle.geometry.proofs.Ring.{ring, var, _⊕_}
+use Rattle.geometry.proofs.Numbers.Ring.{ring, var, _⊕_}
 use Rattle.laws.specs.Laws.{Tri}
 use Rattle.laws.specs.inner.Members.{here, there}
 use Rattle.laws.proofs.Basics.Lists.{any-of-nil}

@@ -7,7 +7,7 @@ use lib.Dec.{ltb}
 use lib.ListN.{length}
 use Rattle.geometry.specs.Space.{solid}
 use Rattle.geometry.specs.declared.tetrahedron.Four.{Four}
-use Rattle.geometry.proofs.Volume.{turned-positive}
+use Rattle.geometry.proofs.Space.Volume.{turned-positive}
 use Rattle.laws.specs.Laws.{Job, Tri, all-faces, law-1, law-2, law-4, entry, quality}
 use Rattle.laws.specs.inner.Members.{In}
 use Rattle.laws.proofs.Basics.Tests.{and-true}

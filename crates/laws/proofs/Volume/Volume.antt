@@ -4,12 +4,11 @@ use mathlib.Core.Bool.{true, false}
 use mathlib.Core.Logic.{_⊎_, inl, inr}
 use mathlib.Core.List.{List, [], _∷_}
 use lib.IntN.{ℤ, pos, negℤ, _+ℤ_, +ℤ-idr}
-use Rattle.geometry.specs.Space.{z, V3, point, D, turned}
+use Rattle.geometry.specs.Space.{z, V3, point, D, turned, value}
 use Rattle.geometry.specs.declared.tetrahedron.Four.{Four}
-use Rattle.geometry.specs.Vectors.{value}
-use Rattle.geometry.proofs.Value.{value-plus}
-use Rattle.geometry.proofs.Ring.{ring, var, _⊕_}
-use Rattle.geometry.proofs.Volume.{vol, vol-turned, vol-back, det-by-faces}
+use Rattle.geometry.proofs.Numbers.Value.{value-plus}
+use Rattle.geometry.proofs.Numbers.Ring.{ring, var, _⊕_}
+use Rattle.geometry.proofs.Space.Volume.{vol, vol-turned, vol-back, det-by-faces}
 use Rattle.laws.specs.Laws.{Job, Tri, tri, has, faces, all-faces, law-4}
 use Rattle.laws.specs.Promise.{sum-D}
 use Rattle.laws.proofs.Basics.Tests.{contradiction, true-or-false}

@@ -5,8 +5,6 @@ use mathlib.Core.List.{List}
 use Prim.Native.Nat.{ℕ, _+_, _*_, _-_, _/_, _%_, _<_}
 use lib.Dec.{leb, eqb}
 use lib.ListN.{length, getD, set, drop}
-use lib.IntN.{ℤ}
-use Rattle.geometry.specs.Space.{points-in}
 use Rattle.laws.specs.Laws.{Tri, tri, Edge, same-tri, reversed}
 use Rattle.laws.specs.Check.{tris-in, edges-in, how-often}
 

@@ -1,14 +1,14 @@
 -- Which candidates own which faces, by the number of a directed triangle. Assumes nothing: these are definitions.
 use mathlib.Core.Path.{_≡_}
-use mathlib.Core.Bool.{Bool, _&&_, _||_, not, cond}
+use mathlib.Core.Bool.{Bool, _&&_, _||_, not}
 use mathlib.Core.List.{List}
-use Prim.Native.Nat.{ℕ, _+_, _*_, _/_, _%_, _<_, _≤_}
+use Prim.Native.Nat.{ℕ, _+_, _*_, _<_, _≤_}
 use lib.Dec.{ltb}
 use lib.ListN.{length, getD}
 use Rattle.geometry.specs.Space.{V3, turned}
 use Rattle.geometry.specs.declared.tetrahedron.Four.{Four}
 use Rattle.laws.specs.inner.FaceCodes.{face-code, flip-code}
-use Rattle.laws.specs.Laws.{Tri, tri, faces}
+use Rattle.laws.specs.Laws.{Tri, faces}
 use Rattle.laws.specs.inner.Members.{Any}
 use Rattle.search.specs.inner.Marks.{nth}
 

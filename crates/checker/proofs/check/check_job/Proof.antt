@@ -1,12 +1,10 @@
 -- `checker::check::check_job` meets its contract: each test is one link of the chain of numbers. Assumes nothing.
 use mathlib.Core.Path.{_≡_, refl, sym, ap, _∙_}
 use mathlib.Core.Bool.{false, not}
-use mathlib.Core.List.{List}
 use Prim.Native.Nat.{ℕ, _/_, _≤_}
 use native.Mathlib.Omega.{arith}
 use borrow.Author.Tests.{not-false, eqb-true}
 use lib.ListN.{length}
-use lib.IntN.{ℤ}
 use Rattle.geometry.specs.Range.{any-far}
 use Rattle.laws.specs.Laws.{choose}
 use Rattle.laws.specs.Lists.{Lists, job-lists}

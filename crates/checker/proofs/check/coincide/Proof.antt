@@ -3,7 +3,7 @@ use mathlib.Core.Path.{refl}
 use native.Mathlib.Omega.{arith}
 use borrow.Author.Needs.{needs}
 use Rattle.geometry.specs.Space.{v3, same-place}
-use Rattle.geometry.proofs.Points.{point-at}
+use Rattle.geometry.proofs.Space.Points.{point-at}
 use Rattle.laws.proofs.Checker.Points.{points-count}
 use Rattle.checker.proofs.check.coincide.Statement.{statement}
 use Rattle.checker.proofs.check.coincide.Tie as tie

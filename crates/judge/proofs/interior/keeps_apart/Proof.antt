@@ -2,7 +2,6 @@
 use mathlib.Core.Path.{_≡_, refl, sym, ap, _∙_}
 use Prim.Native.Nat.{_≤_, _-_, _/_}
 use lib.ListN.{length}
-use mathlib.Core.List.{[]}
 use Rattle.laws.specs.Laws.{law-5}
 use Rattle.laws.specs.Lists.{points-only}
 use Rattle.laws.specs.Check.{job}

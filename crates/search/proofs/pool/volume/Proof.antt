@@ -1,7 +1,7 @@
 -- `search::pool::volume` meets its contract. Assumes nothing.
 use mathlib.Core.Path.{_∙_}
 use borrow.Author.Needs.{needs}
-use Rattle.geometry.proofs.Machine.{kept}
+use Rattle.geometry.proofs.Numbers.Machine.{kept}
 use Rattle.search.proofs.pool.volume.Statement.{statement}
 use Rattle.search.proofs.pool.volume.Tie as tie
 
