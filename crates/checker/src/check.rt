@@ -5,7 +5,7 @@ use crate::boundary::triangles_fit;
 use crate::boundary::tris_alike;
 use crate::boundary::unmatched;
 use crate::list::byte;
-use crate::table::choose;
+use crate::table::choose_4;
 use crate::unmeasured::solid_unmeasured;
 use geometry::range::any_far;
 ghost use mathlib.Core.Path.{_≡_};
@@ -105,7 +105,7 @@ fn table_fits(table: &[i32], n: usize) -> bool
     requires { ⌜ n ≤ 16 ⌝ }
     ensures { λ r. ⌜ r ≡ eqb (length (now (table .entry))) (choose n 4) ⌝ }
 {
-    table.len() == choose(n, 4)
+    table.len() == choose_4(n)
 }
 
 // Whether entry i is neither a quality nor -1.

@@ -8,31 +8,30 @@ ghost use lib.IntN.{negsuc};
 ghost use Rattle.laws.specs.Laws.{choose, place};
 ghost use Rattle.laws.specs.inner.NextFour.{Ordered, Follows};
 
-// How many ways there are to choose k of n: Pascal's triangle, row n, column k.
-pub(crate) fn choose(n: usize, k: usize) -> usize
-    requires { ⌜ (n ≤ 16) × (k ≤ 4) ⌝ }
-    ensures { λ r. ⌜ r ≡ choose n k ⌝ }
+// How many ways there are to choose 2 of n.
+fn choose_2(n: usize) -> usize
+    requires { ⌜ n ≤ 16 ⌝ }
+    ensures { λ r. ⌜ r ≡ choose n 2 ⌝ }
 {
-    let pascal: [[usize; 5]; 17] = [
-        [1, 0, 0, 0, 0],
-        [1, 1, 0, 0, 0],
-        [1, 2, 1, 0, 0],
-        [1, 3, 3, 1, 0],
-        [1, 4, 6, 4, 1],
-        [1, 5, 10, 10, 5],
-        [1, 6, 15, 20, 15],
-        [1, 7, 21, 35, 35],
-        [1, 8, 28, 56, 70],
-        [1, 9, 36, 84, 126],
-        [1, 10, 45, 120, 210],
-        [1, 11, 55, 165, 330],
-        [1, 12, 66, 220, 495],
-        [1, 13, 78, 286, 715],
-        [1, 14, 91, 364, 1001],
-        [1, 15, 105, 455, 1365],
-        [1, 16, 120, 560, 1820],
-    ];
-    pascal[n][k]
+    (n * n - n) / 2
+}
+
+// How many ways there are to choose 3 of n: n (n - 1)(n - 2) / 6.
+fn choose_3(n: usize) -> usize
+    requires { ⌜ n ≤ 16 ⌝ }
+    ensures { λ r. ⌜ r ≡ choose n 3 ⌝ }
+{
+    let t = n * n + 2 - 3 * n;
+    n * t / 6
+}
+
+// How many ways there are to choose 4 of n: n (n - 1)(n - 2)(n - 3) / 24, where n (n - 3) = (n - 1)(n - 2) - 2.
+pub(crate) fn choose_4(n: usize) -> usize
+    requires { ⌜ n ≤ 16 ⌝ }
+    ensures { λ r. ⌜ r ≡ choose n 4 ⌝ }
+{
+    let t = n * n + 2 - 3 * n;
+    (t * t - 2 * t) / 24
 }
 
 // How many fours stand before f: all but f and those behind it, which differ from f first in a, in b, in c or in d.
@@ -40,11 +39,11 @@ pub fn place(n: usize, f: Four) -> usize
     requires { ⌜ (n ≤ 16) × Ordered n f ⌝ }
     ensures { λ r. ⌜ r ≡ place n f ⌝ }
 {
-    let behind = choose(n - 1 - f.a, 4)
-        + choose(n - 1 - f.b, 3)
-        + choose(n - 1 - f.c, 2)
-        + choose(n - 1 - f.d, 1);
-    choose(n, 4) - behind - 1
+    let behind = choose_4(n - 1 - f.a)
+        + choose_3(n - 1 - f.b)
+        + choose_2(n - 1 - f.c)
+        + (n - 1 - f.d);
+    choose_4(n) - behind - 1
 }
 
 // The entry of f.

@@ -26,6 +26,9 @@ unfolding judged
 whole-fours j ls e = rw (eq-eqb (length ls % 4) 0 e) refl
 
 -- ---- the verdict
+pub not-refused : (l : Lists) {k : ℕ} → k ≡ job-refusal l → k ≡ 0 → job-refusal l ≡ 0
+not-refused l e z = sym e ∙ z
+
 module _ (l : Lists) (ls : List ℕ) where
   pub refusal-said : {k : ℕ} → k ≡ job-refusal l → (k ≡ 0 → ⊥) → Judge-says l ls (record { number = k; law = 0; worst = 0 })
   unfolding Judge-says Judge-as

@@ -2,13 +2,14 @@
 use mathlib.Core.Path.{_≡_}
 use mathlib.Core.Bool.{true}
 use mathlib.Core.List.{List, [], _∷_}
-use Prim.Native.Nat.{ℕ, _-_, _≤_, _<_}
+use Prim.Native.Nat.{ℕ, suc, _-_, _≤_, _<_}
 use lib.ListN.{length}
 use Rattle.geometry.specs.Space.{Z, z, plus, equal, D, turned, V3}
 use Rattle.geometry.specs.declared.tetrahedron.Four.{Four}
 use Rattle.laws.specs.Laws.{Job, lawful, Best, place, choose, rising, four-before, bytes, fours-in}
 use Rattle.laws.specs.Lists.{Lists}
 use Rattle.laws.specs.Check.{job, job-refusal}
+use Rattle.laws.specs.inner.NextFour.{Ordered, Follows}
 
 -- THE THIRD DEMAND: a job that is not refused and has a lawful filling has just one best one
 unfoldable pub Best-there : Type 0
@@ -39,6 +40,10 @@ Places-right =
 unfoldable pub Places-rise : Type 0
 Places-rise =
     (n : ℕ) (f g : Four) → rising f ≡ true → rising g ≡ true → f .d < n → g .d < n → four-before f g ≡ true → place n f < place n g
+
+-- without gaps: the next four has the next place
+unfoldable pub Place-next : Type 0
+Place-next = (n : ℕ) (f g : Four) → Ordered n f → Follows n f g → place n g ≡ suc (place n f)
 
 -- a filling has at most 1,820 tetrahedra, so that its bytes fit the answer
 unfoldable pub Fits : Type 0

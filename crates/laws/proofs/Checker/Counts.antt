@@ -8,11 +8,11 @@ use borrow.Author.Tests.{eqb-true, eqb-false}
 use lib.Dec.{eqb}
 use lib.ListN.{length, getD, drop, replicate, length-replicate, getD-replicate, length-set}
 use lib.Seq.{getD-set-same, getD-set-other}
-use Rattle.laws.specs.Laws.{Edge}
+use Rattle.laws.specs.Laws.{Edge, tri}
 use Rattle.laws.specs.Check.{tris-in, directed, how-often, unmatched}
-use Rattle.laws.specs.inner.Listed.{triangles-in, tri-at, tris-from, count-of, counted, Counts, balanced, tri-balanced}
+use Rattle.laws.specs.inner.Listed.{triangles-in, tri-at, tris-from, count-of, counted, Within, Counts, balanced, tri-balanced}
 use Rattle.laws.proofs.Basics.Scan.{Step}
-use Rattle.laws.proofs.Checker.Rest.{tris-more, tris-done}
+use Rattle.laws.proofs.Checker.Rest.{Numbered, numbered-within, tris-more, tris-done}
 
 pub record Counting (counts : List ℕ) (left all : List Edge) : Type 0 where
   pub long : length counts ≡ 256
@@ -113,9 +113,18 @@ unmatched-step bs i es h =
           (three (balanced es (t .a) (t .b)) (balanced es (t .b) (t .c)) (balanced es (t .c) (t .a)) (unmatched (directed (tris-from bs (i + 1))) es));
     }
 
-pub balanced-by-counts :
+balanced-by-counts :
     {counts : List ℕ} {es : List Edge} (a b : ℕ) → a < 16 → b < 16 → Counts counts es → eqb (count-of counts a b) (count-of counts b a) ≡ balanced es a b
 balanced-by-counts a b h k c = rw (c .each a b h k, c .each b a k h) refl
+
+pub tri-balanced-by-counts :
+    {counts : List ℕ} {es : List Edge} (bs : List ℕ) (i : ℕ) {a b c : ℕ} {x y w : Bool} → Counts counts es → Within 16 (tri-at bs i) → Numbered bs i a b c →
+    x ≡ eqb (count-of counts a b) (count-of counts b a) → y ≡ eqb (count-of counts b c) (count-of counts c b) →
+    w ≡ eqb (count-of counts c a) (count-of counts a c) → (x && (y && w)) ≡ tri-balanced es (tri-at bs i)
+unfolding tri-balanced tri
+tri-balanced-by-counts bs i {a} {b} {c} k h m p q r =
+    let w = numbered-within bs i h m in
+    rw (p, q, r, balanced-by-counts a b (w .a) (w .b) k, balanced-by-counts b c (w .b) (w .c) k, balanced-by-counts c a (w .c) (w .a) k, m .a-is, m .b-is, m .c-is) refl
 
 pub unmatched-end : (bs : List ℕ) (i : ℕ) (es : List Edge) → length bs / 3 ≤ i → unmatched (directed (tris-from bs i)) es ≡ false
 unfolding directed unmatched

@@ -6,15 +6,17 @@ use Prim.Native.Nat.{ℕ, suc, _+_, _-_, _/_, _≤_, _<_}
 use native.Mathlib.Numerals.{add-one}
 use native.Mathlib.Omega.{arith}
 use lib.ListN.{length, getD}
-use lib.IntN.{ℤ, negsuc}
+use lib.IntN.{ℤ, pos, negsuc}
 use Rattle.geometry.specs.Space.{points-in, solid, four}
 use Rattle.geometry.specs.declared.tetrahedron.Four.{Four}
-use Rattle.laws.specs.Laws.{Job, place, entry}
+use Rattle.laws.specs.Laws.{Job, choose, place, entry}
 use Rattle.laws.specs.Lists.{Lists, with-table}
 use Rattle.laws.specs.Check.{over, unmeasured, solid-unmeasured, job}
-use Rattle.laws.specs.inner.Unmeasured.{four-unmeasured, any-fourth, any-third, any-second}
+use Rattle.laws.specs.inner.NextFour.{Ordered}
+use Rattle.laws.specs.inner.Unmeasured.{Tabled, four-unmeasured, any-fourth, any-third, any-second}
 use Rattle.laws.proofs.Checker.Points.{points-count}
 use Rattle.laws.proofs.Basics.Scan.{Step}
+use Rattle.laws.proofs.Order.TablePlace.{fours-most, getD-inside, place-behind}
 
 pub over-step : (n i : ℕ) (f : ℕ → Bool) → i < n → Step (over (n - i) i f) (f i) (over (n - (i + 1)) (i + 1) f)
 unfolding over
@@ -48,10 +50,19 @@ module _ (cs qs : List ℤ) where
   unfolding solid-unmeasured any-second any-third any-fourth four-unmeasured
   first-start = let d : length cs / 3 - 0 ≡ length cs / 3 = omega arith in rw (d, sym job-points) refl
 
-  pub four-by-parts :
-      (f : Four) → four-unmeasured bare f ≡ (solid (points-in cs) f && unmeasured (getD qs (place (length cs / 3) f) (negsuc 0)))
+  -- every four has an entry
+  pub tabled-place : (f : Four) → Tabled cs qs → Ordered (length cs / 3) f → (place (length cs / 3) f < length qs) × (length qs ≤ 1820)
+  tabled-place f t o =
+      let e = points-count cs in
+      let p = place-behind (length cs / 3) f o in
+      let q : length qs ≡ choose (length cs / 3) 4 = rw e at (t .full) in
+      let m = fours-most (length cs / 3) (omega (arith, t .few)) in (omega arith, omega arith)
+
+  pub four-by-entry :
+      (f : Four) (at : ℕ) → Tabled cs qs → Ordered (length cs / 3) f → at ≡ place (length cs / 3) f →
+      four-unmeasured bare f ≡ (solid (points-in cs) f && unmeasured (getD qs at (pos 0)))
   unfolding four-unmeasured entry job
-  four-by-parts f = rw (points-count cs) refl
+  four-by-entry f at t o e = rw (points-count cs, e, getD-inside qs (place (length cs / 3) f) (pos 0) (negsuc 0) (tabled-place f t o .0)) refl
 
 -- number 13 looks at points and table alone
 pub unmeasured-bare : (l : Lists) → solid-unmeasured (job l) ≡ solid-unmeasured (bare (l .points) (l .table))

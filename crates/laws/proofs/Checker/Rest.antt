@@ -1,14 +1,14 @@
 -- Triangles and kept edges from the i-th on, and the steps of the loops that go over them. Assumes nothing.
 use mathlib.Core.Path.{_≡_, refl}
-use mathlib.Core.Bool.{false}
+use mathlib.Core.Bool.{Bool, false, _||_}
 use mathlib.Core.List.{List, [], _∷_}
 use Prim.Native.Nat.{ℕ, suc, _+_, _*_, _-_, _/_, _≤_, _<_}
 use native.Mathlib.Omega.{arith}
-use lib.ListN.{length}
+use lib.ListN.{length, getD}
 use lib.Seq.{drop-drop, getD-drop}
-use Rattle.laws.specs.Laws.{Tri, tri}
+use Rattle.laws.specs.Laws.{Tri, tri, same-tri, reversed}
 use Rattle.laws.specs.Check.{tris-in, tri-bad, any-tri-bad, tri-taken, tris-alike, edges-in, edge-bad}
-use Rattle.laws.specs.inner.Listed.{triangles-in, kept-in, tri-at, edge-at, same-three, edge-wrong, tris-from, edges-from}
+use Rattle.laws.specs.inner.Listed.{triangles-in, kept-in, tri-at, edge-at, same-three, edge-wrong, Within, tris-from, edges-from}
 use Rattle.laws.proofs.Basics.Scan.{Step}
 
 -- ---- triangles
@@ -54,6 +54,22 @@ module _ (bs : List ℕ) (i : ℕ) (h : length bs / 3 ≤ i) where
   pub tris-alike-end : tris-alike (tris-from bs i) ≡ false
   unfolding tris-alike
   tris-alike-end = rw (tris-done bs i h) refl
+
+-- a triangle of the list by its numbers
+pub record Numbered (bs : List ℕ) (i a b c : ℕ) : Type 0 where
+  pub a-is : a ≡ getD bs (i * 3) 0
+  pub b-is : b ≡ getD bs (i * 3 + 1) 0
+  pub c-is : c ≡ getD bs (i * 3 + 2) 0
+
+pub numbered-within : (bs : List ℕ) (i : ℕ) {a b c n : ℕ} → Within n (tri-at bs i) → Numbered bs i a b c → Within n (record { a = a; b = b; c = c })
+unfolding tri
+numbered-within bs i h m = record { a = rw (m .a-is) (h .a); b = rw (m .b-is) (h .b); c = rw (m .c-is) (h .c) }
+
+pub same-three-by-numbers :
+    (bs : List ℕ) (i k : ℕ) {a b c d e f : ℕ} {x y : Bool} → Numbered bs i a b c → Numbered bs k d e f → x ≡ same-tri (tri a b c) (tri d e f) →
+    y ≡ same-tri (tri a c b) (tri d e f) → (x || y) ≡ same-three (tri-at bs i) (tri-at bs k)
+unfolding tri reversed
+same-three-by-numbers bs i k m n u v = rw (u, v, m .a-is, m .b-is, m .c-is, n .a-is, n .b-is, n .c-is) refl
 
 -- ---- kept edges
 pub edges-start : (bs : List ℕ) → kept-in bs ≡ edges-from bs 0

@@ -10,7 +10,7 @@ use Prim.Native.Nat.{_%_}
 use borrow.Author.Tests.{leb-true}
 use Rattle.geometry.proofs.Numbers.Value.{value-equal}
 use Rattle.laws.specs.Laws.{worst, four-before, place}
-use Rattle.laws.specs.Promise.{Best-alone, Places-right, Places-rise, Fits, Best-there, sum-D, Same-space}
+use Rattle.laws.specs.Promise.{Best-alone, Places-right, Places-rise, Place-next, Fits, Best-there, sum-D, Same-space}
 use Rattle.laws.specs.Check.{job}
 use Rattle.laws.proofs.Basics.Tests.{and-true}
 use Rattle.laws.proofs.Choice.Conditions.{accepted, keeps}
@@ -20,6 +20,7 @@ use Rattle.laws.proofs.Order.FourOrder.{four-trichotomy}
 use Rattle.laws.proofs.Order.ListOrder.{list-before-asym, list-discrete}
 use Rattle.laws.proofs.Order.Sorted.{Well-formed}
 use Rattle.laws.proofs.Order.Places.{at-most-1820, place-below, place-rises}
+use Rattle.laws.proofs.Order.NextPlace.{place-next}
 use Rattle.laws.proofs.Order.Bytes.{bytes-read-back, length-bytes}
 use Rattle.laws.proofs.Choice.Best.{best-exists}
 
@@ -42,6 +43,10 @@ places-right n f g h rf rg lf lg = (place-below n f u, λ e. go e (four-trichoto
 pub places-rise : Places-rise
 unfolding Places-rise
 places-rise n f g rf rg lf lg b = place-rises n f g (record { up = rf; below = lf }) (record { up = rg; below = lg }) b
+
+pub place-next-holds : Place-next
+unfolding Place-next
+place-next-holds n f g s h = place-next s h
 
 -- at most C(16, 4) = 1,820 fours of 4 bytes each
 pub fits : Fits

@@ -1,7 +1,6 @@
 -- `checker::boundary::is_same_three` meets its contract. Assumes nothing.
-use mathlib.Core.Path.{refl}
 use borrow.Author.Needs.{needs}
-use Rattle.laws.specs.Laws.{tri, reversed}
+use Rattle.laws.proofs.Checker.Rest.{same-three-by-numbers}
 use Rattle.checker.proofs.boundary.is_same_three.Statement.{statement}
 use Rattle.checker.proofs.boundary.is_same_three.Tie as tie
 
@@ -60,10 +59,14 @@ is-same-tri-requires-2 : tie.Need-is-same-tri-requires-2
 is-same-tri-requires-2 c κs = search needs
 
 returns : tie.Need-returns
-unfolding tri reversed
 returns c =
-    let s = c .before .before in
-    rw (c .before .is-same-tri .ensures, c .is-same-tri2 .ensures, s .before .before .before .before .before .byte .ensures, s .before .before .before .before .byte2 .ensures, s .before .before .before .byte3 .ensures, s .before .before .byte4 .ensures, s .before .byte5 .ensures, s .byte6 .ensures) refl
+    let v = c .before .before in
+    let u = v .before .before .before in
+    let s = u .before .before .before .before in
+    same-three-by-numbers (s .args .triangles .now) (s .args .i) (s .args .k)
+    (record { a-is = u .before .before .byte .ensures; b-is = u .before .byte2 .ensures; c-is = u .byte3 .ensures })
+    (record { a-is = v .before .before .byte4 .ensures; b-is = v .before .byte5 .ensures; c-is = v .byte6 .ensures }) (c .before .is-same-tri .ensures)
+    (c .is-same-tri2 .ensures)
 
 pub is-same-three-spec : {M : Type 1} → statement M
 is-same-three-spec =

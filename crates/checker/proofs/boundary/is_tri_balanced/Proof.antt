@@ -1,10 +1,7 @@
 -- `checker::boundary::is_tri_balanced` meets its contract. Assumes nothing.
-use mathlib.Core.Path.{refl}
-use Prim.Native.Nat.{_<_}
 use borrow.Author.Needs.{needs}
-use Rattle.laws.specs.Laws.{tri}
-use Rattle.laws.specs.inner.Listed.{tri-balanced}
-use Rattle.laws.proofs.Checker.Counts.{balanced-by-counts}
+use Rattle.laws.proofs.Checker.Rest.{numbered-within}
+use Rattle.laws.proofs.Checker.Counts.{tri-balanced-by-counts}
 use Rattle.checker.proofs.boundary.is_tri_balanced.Statement.{statement}
 use Rattle.checker.proofs.boundary.is_tri_balanced.Tie as tie
 
@@ -33,45 +30,36 @@ byte-requires-3 : tie.Need-byte-requires-3
 byte-requires-3 c κs = search needs
 
 is-balanced-requires : tie.Need-is-balanced-requires
-unfolding tri
 is-balanced-requires c κs =
     let x = c in
-    let w = x .before .before .before .before .pre .2 in
-    let ha : x .before .before .byte .result < 16 = rw (x .before .before .byte .ensures) (w .a) in
-    let hb : x .before .byte2 .result < 16 = rw (x .before .byte2 .ensures) (w .b) in
-    let hc : x .byte3 .result < 16 = rw (x .byte3 .ensures) (w .c) in (ha, hb)
+    let s = x .before .before .before .before in
+    let w =
+    numbered-within (s .args .triangles .now) (s .args .i) (s .pre .2)
+    (record { a-is = x .before .before .byte .ensures; b-is = x .before .byte2 .ensures; c-is = x .byte3 .ensures }) in (w .a, w .b)
 
 is-balanced-requires-2 : tie.Need-is-balanced-requires-2
-unfolding tri
 is-balanced-requires-2 c κs =
     let x = c .before in
-    let w = x .before .before .before .before .pre .2 in
-    let ha : x .before .before .byte .result < 16 = rw (x .before .before .byte .ensures) (w .a) in
-    let hb : x .before .byte2 .result < 16 = rw (x .before .byte2 .ensures) (w .b) in
-    let hc : x .byte3 .result < 16 = rw (x .byte3 .ensures) (w .c) in (hb, hc)
+    let s = x .before .before .before .before in
+    let w =
+    numbered-within (s .args .triangles .now) (s .args .i) (s .pre .2)
+    (record { a-is = x .before .before .byte .ensures; b-is = x .before .byte2 .ensures; c-is = x .byte3 .ensures }) in (w .b, w .c)
 
 is-balanced-requires-3 : tie.Need-is-balanced-requires-3
-unfolding tri
 is-balanced-requires-3 c κs =
     let x = c .before .before in
-    let w = x .before .before .before .before .pre .2 in
-    let ha : x .before .before .byte .result < 16 = rw (x .before .before .byte .ensures) (w .a) in
-    let hb : x .before .byte2 .result < 16 = rw (x .before .byte2 .ensures) (w .b) in
-    let hc : x .byte3 .result < 16 = rw (x .byte3 .ensures) (w .c) in (hc, ha)
+    let s = x .before .before .before .before in
+    let w =
+    numbered-within (s .args .triangles .now) (s .args .i) (s .pre .2)
+    (record { a-is = x .before .before .byte .ensures; b-is = x .before .byte2 .ensures; c-is = x .byte3 .ensures }) in (w .c, w .a)
 
 returns : tie.Need-returns
-unfolding tri tri-balanced
 returns c =
     let x = c .before .before .before in
-    let w = x .before .before .before .before .pre .2 in
-    let ha : x .before .before .byte .result < 16 = rw (x .before .before .byte .ensures) (w .a) in
-    let hb : x .before .byte2 .result < 16 = rw (x .before .byte2 .ensures) (w .b) in
-    let hc : x .byte3 .result < 16 = rw (x .byte3 .ensures) (w .c) in
-    let k = x .before .before .before .before .pre .0 in
-    let a = x .before .before .byte in
-    let b = x .before .byte2 in
-    let d = x .byte3 in
-    rw (c .before .before .is-balanced .ensures, c .before .is-balanced2 .ensures, c .is-balanced3 .ensures, balanced-by-counts (a .result) (b .result) ha hb k, balanced-by-counts (b .result) (d .result) hb hc k, balanced-by-counts (d .result) (a .result) hc ha k, a .ensures, b .ensures, d .ensures) refl
+    let s = x .before .before .before .before in
+    tri-balanced-by-counts (s .args .triangles .now) (s .args .i) (s .pre .0) (s .pre .2)
+    (record { a-is = x .before .before .byte .ensures; b-is = x .before .byte2 .ensures; c-is = x .byte3 .ensures }) (c .before .before .is-balanced .ensures)
+    (c .before .is-balanced2 .ensures) (c .is-balanced3 .ensures)
 
 pub is-tri-balanced-spec : {M : Type 1} → statement M
 is-tri-balanced-spec =

@@ -1,10 +1,6 @@
 -- `checker::check::coincide` meets its contract. Assumes nothing.
-use mathlib.Core.Path.{refl}
-use native.Mathlib.Omega.{arith}
 use borrow.Author.Needs.{needs}
-use Rattle.geometry.specs.Space.{v3, same-place}
-use Rattle.geometry.proofs.Space.Points.{point-at}
-use Rattle.laws.proofs.Checker.Points.{points-count}
+use Rattle.laws.proofs.Checker.Points.{same-place-by-coordinates}
 use Rattle.checker.proofs.check.coincide.Statement.{statement}
 use Rattle.checker.proofs.check.coincide.Tie as tie
 
@@ -48,13 +44,10 @@ is-same-coordinate-requires-3 : tie.Need-is-same-coordinate-requires-3
 is-same-coordinate-requires-3 c κs = search needs
 
 returns : tie.Need-returns
-unfolding v3 same-place
 returns c =
     let s = c .before .before .before in
-    let cs = s .args .points .now in
-    let n = points-count cs in
-    rw (point-at cs (s .args .p) (omega arith), point-at cs (s .args .q) (omega arith))
-    (rw (c .before .before .is-same-coordinate .ensures, c .before .is-same-coordinate2 .ensures, c .is-same-coordinate3 .ensures) refl)
+    same-place-by-coordinates (s .args .points .now) (s .args .p) (s .args .q) (s .pre .1) (s .pre .2) (c .before .before .is-same-coordinate .ensures)
+    (c .before .is-same-coordinate2 .ensures) (c .is-same-coordinate3 .ensures)
 
 pub coincide-spec : {M : Type 1} → statement M
 coincide-spec =

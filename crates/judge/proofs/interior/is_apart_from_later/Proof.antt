@@ -1,6 +1,7 @@
 -- `judge::interior::is_apart_from_later` meets its contract. The invariant: the fours from the k-th on have the answer of all. Assumes nothing.
-use mathlib.Core.Path.{_≡_, refl, sym, _∙_}
-use Prim.Native.Nat.{_+_, _≤_, _<_, _-_, _/_}
+use mathlib.Core.Path.{_≡_, refl, sym, subst, _∙_}
+use mathlib.Core.Bool.{Bool}
+use Prim.Native.Nat.{ℕ, _+_, _≤_, _<_, _-_, _/_}
 use lib.ListN.{length}
 use Rattle.geometry.specs.Space.{points-in}
 use Rattle.laws.specs.Laws.{apart-all}
@@ -13,10 +14,14 @@ use Rattle.judge.proofs.interior.is_apart_from_later.Statement.{stateme
 use Rattle.judge.proofs.interior.is_apart_from_later.Tie as tie
 
 abbrev Inv-loop : tie.InvT-loop
-Inv-loop points list i f end k₀ k = (i < k) × (k ≤ length list / 4) × (end ≡ length list / 4) × (apart-all (points-in points) (four-at list i) (fours-from list (i + 1)) ≡ apart-all (points-in points) (four-at list i) (fours-from list k))
+Inv-loop points list i f end k₀ k = (apart-all (points-in points) (four-at list i) (fours-from list (i + 1)) ≡ apart-all (points-in points) (four-at list i) (fours-from list k)) × (i < k) × (k ≤ length list / 4) × (end ≡ length list / 4)
 
 abbrev μ-loop : tie.MeasureT-loop
 μ-loop points list i f end k₀ k = end - k
+
+-- the index of the next turn is that of the four behind the one that passed
+one-further : (later : ℕ → Bool) (k : ℕ) {whole : Bool} {next : ℕ} → whole ≡ later (k + 1) → k + 1 ≡ next → whole ≡ later next
+one-further later k {whole} p e = subst (λ (m : ℕ). whole ≡ later m) e p
 
 four-at-requires : tie.Need-four-at-requires Inv-loop μ-loop
 four-at-requires c κs = omega arith
@@ -25,7 +30,7 @@ add-k : tie.Need-add-k Inv-loop μ-loop
 add-k c = omega arith
 
 loop-holds : tie.Need-loop-holds Inv-loop μ-loop
-loop-holds c = (omega arith, omega arith, refl, refl)
+loop-holds c = (refl, omega arith, omega arith, refl)
 
 four-at-requires-2 : tie.Need-four-at-requires-2 Inv-loop μ-loop
 four-at-requires-2 c κs = omega arith
@@ -39,7 +44,7 @@ are-apart-requires c κs =
 returns : tie.Need-returns Inv-loop μ-loop
 returns c =
     let s = c .before .before .before .before .before .before .before .args in
-    fails (c .before .before .before .before .loop .inv .3) (apart-test (s .list .now) (c .before .before .before .before .loop .k) (omega arith) (points-in (s .points .now)) (four-at (s .list .now) (s .i))) (apart-is (points-in (s .points .now)) (c .before .are-apart .ensures) (c .before .before .before .before .before .four-at .ensures) (c .before .before .four-at2 .ensures)) (c .if1 .taken)
+    fails (c .before .before .before .before .loop .inv .0) (apart-test (s .list .now) (c .before .before .before .before .loop .k) (omega arith) (points-in (s .points .now)) (four-at (s .list .now) (s .i))) (apart-is (points-in (s .points .now)) (c .before .are-apart .ensures) (c .before .before .before .before .before .four-at .ensures) (c .before .before .four-at2 .ensures)) (c .if1 .taken)
 
 add-k-2 : tie.Need-add-k-2 Inv-loop μ-loop
 add-k-2 c = omega arith
@@ -50,10 +55,15 @@ loop-less c = omega arith
 loop-again : tie.Need-loop-again Inv-loop μ-loop
 loop-again c =
     let s = c .before .before .before .before .before .before .before .args in
-    (omega arith, omega arith, omega arith, passes (c .before .before .before .before .loop .inv .3) (apart-test (s .list .now) (c .before .before .before .before .loop .k) (omega arith) (points-in (s .points .now)) (four-at (s .list .now) (s .i))) (apart-is (points-in (s .points .now)) (c .before .are-apart .ensures) (c .before .before .before .before .before .four-at .ensures) (c .before .before .four-at2 .ensures)) (c .if1 .left))
+    let l = c .before .before .before .before .loop in
+    let later : ℕ → Bool = λ m. apart-all (points-in (s .points .now)) (four-at (s .list .now) (s .i)) (fours-from (s .list .now) m) in
+    let p =
+    passes (l .inv .0) (apart-test (s .list .now) (l .k) (omega arith) (points-in (s .points .now)) (four-at (s .list .now) (s .i)))
+    (apart-is (points-in (s .points .now)) (c .before .are-apart .ensures) (c .before .before .before .before .before .four-at .ensures) (c .before .before .four-at2 .ensures)) (c .if1 .left) in
+    (one-further later (l .k) p (omega arith), omega arith, omega arith, omega arith)
 
 returns-2 : tie.Need-returns-2 Inv-loop μ-loop
-returns-2 c = sym (c .before .loop .inv .3 ∙ apart-end (c .before .before .before .before .args .list .now) (c .before .loop .k) (omega arith) (points-in (c .before .before .before .before .args .points .now)) (four-at (c .before .before .before .before .args .list .now) (c .before .before .before .before .args .i)))
+returns-2 c = sym (c .before .loop .inv .0 ∙ apart-end (c .before .before .before .before .args .list .now) (c .before .loop .k) (omega arith) (points-in (c .before .before .before .before .args .points .now)) (four-at (c .before .before .before .before .args .list .now) (c .before .before .before .before .args .i)))
 
 pub is-apart-from-later-spec : {M : Type 1} → statement M
 is-apart-from-later-spec =
