@@ -1,7 +1,4 @@
 // The cavities of document 01 that its table of proved ones leaves out: the greatest count of points, the greatest coordinate, the smallest buffer.
-use crate::tally::Tally;
-use crate::trial::is_answer;
-use crate::trial::trial;
 use checker::check::check_job;
 use enumerator::fours::listed;
 use enumerator::fours::place_of;
@@ -9,6 +6,9 @@ use enumerator::read::put_number;
 use enumerator::read::upto;
 use random_jobs::boundary::put_boundary;
 use random_jobs::damage::NOTHING;
+use trials::tally::Tally;
+use trials::trial::is_answer;
+use trials::trial::trial;
 
 // Two points above and below a ring of fourteen, then one more within.
 const RING: [i32; 51] = [
@@ -151,38 +151,24 @@ fn put_open(n: usize, list: &[u8], out: &mut [i32]) {
     }
 }
 
-// 16 points are accepted, 17 are not.
-fn with_both(
-    sixteen: &[i32],
-    seventeen: &[i32],
-    triangles: &[u8],
-    table: &[i32],
-    around: &[u8],
-    tally: Tally,
-) -> Tally {
-    let t = limit(sixteen, triangles, b"\x00\x01", table, around, 0, tally);
-    limit(seventeen, triangles, b"", table, around, 2, t)
+// 16 of the points are accepted, 17 are not. Only the given tetrahedra are open.
+fn with_both(points: &[i32], triangles: &[u8], around: &[u8], tally: Tally) -> Tally {
+    let mut table = [0i32; 1820];
+    put_open(16, around, &mut table);
+    let sixteen = &points[0..upto(48, points.len())];
+    let t = limit(sixteen, triangles, b"\x00\x01", &table, around, 0, tally);
+    limit(points, triangles, b"", &table, around, 2, t)
 }
 
 fn with_ring(tally: Tally) -> Tally {
     let points = RING;
     let around = AROUND;
-    let mut table = [0i32; 1820];
-    put_open(16, &around, &mut table);
     let mut triangles = [0u8; 96];
     let n = upto(
         put_boundary(0, NOTHING, &points[0..48], &around, &mut triangles),
         96,
     );
-    let all = RING;
-    with_both(
-        &points[0..48],
-        &all,
-        &triangles[0..n],
-        &table,
-        &around,
-        tally,
-    )
+    with_both(&points, &triangles[0..n], &around, tally)
 }
 
 // The corner of a cube, with the given size of it along x and z.

@@ -2,9 +2,6 @@
 // table, and on random jobs. How many jobs: the number on the first line of standard input, 3,600 where there is none. Prints how many there were of each kind,
 // and how many comparisons differ. Assumes nothing; any bytes may come.
 mod limits;
-mod lists;
-mod tally;
-mod trial;
 
 use enumerator::enumerate::ROOM;
 use enumerator::read::upto;
@@ -22,8 +19,8 @@ use random_jobs::damage::damage;
 use random_jobs::kept::put_kept;
 use random_jobs::points::put_points;
 use random_jobs::table::put_table;
-use tally::Tally;
-use trial::trial;
+use trials::tally::Tally;
+use trials::trial::trial;
 
 const JOBS: u64 = 3_600;
 

@@ -11,6 +11,11 @@ use crate::read::up;
 use geometry_c::checked::YES;
 use geometry_c::checked::solid;
 
+// Numbers 2 and 5: so many numbers are no threes, or too few or too many.
+fn is_no_count(len: usize, least: usize, most: usize) -> bool {
+    (len % 3 != 0) | (len / 3 < least) | (len / 3 > most)
+}
+
 // Numbers 3 and 12.
 fn is_outside(v: i32, least: i32, most: i32) -> bool {
     (v < least) | (v > most)
@@ -35,7 +40,8 @@ pub fn is_taken(points: &[i32], p: usize) -> bool {
 }
 
 // Number 6.
-fn is_bad_triangle(t: Triangle, n: usize) -> bool {
+fn is_bad_triangle(triangles: &[u8], i: usize, n: usize) -> bool {
+    let t = triangle_at(triangles, i);
     (t.a >= n) | (t.b >= n) | (t.c >= n) | (t.a == t.b) | (t.b == t.c) | (t.a == t.c)
 }
 
@@ -67,16 +73,25 @@ fn how_often(triangles: &[u8], p: usize, q: usize) -> usize {
     n
 }
 
-// Number 8: an edge of t does not run one way as often as the other.
-fn is_unmatched(triangles: &[u8], t: Triangle) -> bool {
+// Number 8: an edge of the i-th triangle does not run one way as often as the other.
+fn is_unmatched(triangles: &[u8], i: usize) -> bool {
+    let t = triangle_at(triangles, i);
     (how_often(triangles, t.a, t.b) != how_often(triangles, t.b, t.a))
         | (how_often(triangles, t.b, t.c) != how_often(triangles, t.c, t.b))
         | (how_often(triangles, t.c, t.a) != how_often(triangles, t.a, t.c))
 }
 
 // Number 10.
-fn is_bad_edge(p: usize, q: usize, n: usize) -> bool {
+fn is_bad_edge(kept: &[u8], i: usize, n: usize) -> bool {
+    let at = start(i, 2);
+    let p = byte_at(kept, at);
+    let q = byte_at(kept, offset(at, 1));
     (p >= n) | (q >= n) | (p == q)
+}
+
+// Number 13.
+fn is_unmeasured(points: &[i32], table: &[i32], i: usize, n: usize) -> bool {
+    (number_at(table, i) == -1) & (solid(points, at_place(n, i)) == YES)
 }
 
 // How many things the number is about: coordinates, points, triangles, kept edges, entries; one where it is about how many there are.
@@ -101,24 +116,19 @@ fn is_wrong(
     i: usize,
 ) -> bool {
     let n = points.len() / 3;
-    let m = triangles.len() / 3;
     match number {
-        2 => (points.len() % 3 != 0) | (n < 4) | (n > 16),
+        2 => is_no_count(points.len(), 4, 16),
         3 => is_outside(number_at(points, i), -10_000, 10_000),
         4 => is_taken(points, i),
-        5 => (triangles.len() % 3 != 0) | (m < 4) | (m > 560),
-        6 => is_bad_triangle(triangle_at(triangles, i), n),
+        5 => is_no_count(triangles.len(), 4, 560),
+        6 => is_bad_triangle(triangles, i, n),
         7 => is_repeated(triangles, i),
-        8 => is_unmatched(triangles, triangle_at(triangles, i)),
+        8 => is_unmatched(triangles, i),
         9 => (kept.len() % 2 != 0) | (kept.len() / 2 > 120),
-        10 => is_bad_edge(
-            byte_at(kept, start(i, 2)),
-            byte_at(kept, offset(start(i, 2), 1)),
-            n,
-        ),
+        10 => is_bad_edge(kept, i, n),
         11 => table.len() != how_many(n),
         12 => is_outside(number_at(table, i), -1, 1_000_000),
-        _ => (number_at(table, i) == -1) & (solid(points, at_place(n, i)) == YES),
+        _ => is_unmeasured(points, table, i, n),
     }
 }
 

@@ -4,7 +4,6 @@ use crate::fours::first;
 use crate::fours::how_many;
 use crate::fours::listed;
 use crate::fours::put_four;
-use crate::read::byte_at;
 use crate::read::offset;
 use crate::read::start;
 use crate::read::up;
@@ -62,28 +61,23 @@ pub fn put_subset(pool: &[u8], s: usize, out: &mut [u8]) -> usize {
     n
 }
 
-// Whether the list a comes before the list b: the smaller number at the first place where they differ, or the start of the longer one.
-fn comes_first(a: &[u8], b: &[u8]) -> bool {
-    for i in 0..a.len() {
-        if i >= b.len() {
-            return false;
+// Whether the list of the subset s of a pool comes before that of t: the smaller four at the first place where the lists differ, or the start of the longer one. Where
+// one subset alone has a four, no later one of the other is as small: its list comes first, unless the other one has ended.
+fn comes_first(s: usize, t: usize) -> bool {
+    let mut a = s;
+    let mut b = t;
+    for k in 0..MOST {
+        if a % 2 != b % 2 {
+            return if a % 2 == 1 { b > 0 } else { a == 0 };
         }
-        if byte_at(a, i) != byte_at(b, i) {
-            return byte_at(a, i) < byte_at(b, i);
-        }
+        a = a / 2;
+        b = b / 2;
     }
-    a.len() < b.len()
+    false
 }
 
-// Whether the list comes before the s-th subset.
-fn is_before(pool: &[u8], list: &[u8], s: usize) -> bool {
-    let mut room = [0u8; ROOM];
-    let n = upto(put_subset(pool, s, &mut room), ROOM);
-    comes_first(list, &room[0..n])
-}
-
-// The best so far, with one more lawful list of worst quality q, which is the s-th subset.
-fn with_lawful(pool: &[u8], list: &[u8], s: usize, q: u32, best: Best) -> Best {
+// The best so far, with the s-th subset, which is lawful and of worst quality q.
+fn with_lawful(s: usize, q: u32, best: Best) -> Best {
     let lawful = up(best.lawful);
     if (best.lawful == 0) | (q > best.worst) {
         return Best {
@@ -101,7 +95,7 @@ fn with_lawful(pool: &[u8], list: &[u8], s: usize, q: u32, best: Best) -> Best {
             subset: best.subset,
         };
     }
-    let subset = if is_before(pool, list, best.subset) {
+    let subset = if comes_first(s, best.subset) {
         s
     } else {
         best.subset
@@ -130,7 +124,7 @@ fn tried(
     if lowest_broken(points, triangles, kept, table, list) != 0 {
         return best;
     }
-    with_lawful(pool, list, s, worst(points, table, list), best)
+    with_lawful(s, worst(points, table, list), best)
 }
 
 // The best lawful filling, of all the subsets of the pool.

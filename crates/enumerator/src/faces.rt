@@ -1,6 +1,8 @@
 // Triangles of three points' numbers, and the outward faces of tetrahedra.
 use crate::fours::corner;
+use crate::fours::four;
 use crate::fours::listed;
+use crate::fours::put_corners;
 use crate::read::byte_at;
 use crate::read::offset;
 use crate::read::put;
@@ -54,9 +56,7 @@ pub fn stands(list: &[u8], from: usize, t: Triangle) -> bool {
 }
 
 pub fn put_triangle(out: &mut [u8], at: usize, t: Triangle) {
-    put(out, at, t.a);
-    put(out, offset(at, 1), t.b);
-    put(out, offset(at, 2), t.c);
+    put_corners(out, at, four(t.a, t.b, t.c, t.a), 3);
 }
 
 // The outward faces of t, which has a positive volume.
@@ -67,9 +67,11 @@ fn put_four_faces(t: Four, out: &mut [u8], at: usize) {
     }
 }
 
-// Puts the outward faces of the list's fours at the start of out, twelve bytes a four.
-pub fn put_faces(points: &[i32], list: &[u8], out: &mut [u8]) {
-    for i in 0..list.len() / 4 {
+// Puts the outward faces of the list's fours at the start of out, twelve bytes a four; how many bytes that is, which may be more than out has room for.
+pub fn put_faces(points: &[i32], list: &[u8], out: &mut [u8]) -> usize {
+    let n = list.len() / 4;
+    for i in 0..n {
         put_four_faces(turned(points, listed(list, i)), out, start(i, 12));
     }
+    start(n, 12)
 }

@@ -96,8 +96,13 @@ pub fn corner(f: Four, k: usize) -> usize {
     }
 }
 
-pub fn put_four(out: &mut [u8], at: usize, f: Four) {
-    for k in 0..4 {
+// Puts the first corners of f, as many as are asked for, from a place on.
+pub(crate) fn put_corners(out: &mut [u8], at: usize, f: Four, many: usize) {
+    for k in 0..many {
         put(out, offset(at, k), corner(f, k));
     }
+}
+
+pub fn put_four(out: &mut [u8], at: usize, f: Four) {
+    put_corners(out, at, f, 4);
 }

@@ -26,16 +26,9 @@ const FACES: usize = 768;
 
 // Whether f comes before g, number by number.
 fn precedes(f: Four, g: Four) -> bool {
-    if f.a != g.a {
-        return f.a < g.a;
-    }
-    if f.b != g.b {
-        return f.b < g.b;
-    }
-    if f.c != g.c {
-        return f.c < g.c;
-    }
-    f.d < g.d
+    (f.a < g.a)
+        | ((f.a == g.a)
+            & ((f.b < g.b) | ((f.b == g.b) & ((f.c < g.c) | ((f.c == g.c) & (f.d < g.d))))))
 }
 
 // Law 1: a strictly increasing four of present points, before the next one.
@@ -107,8 +100,7 @@ fn are_matched(triangles: &[u8], faces: &[u8]) -> bool {
 
 fn keeps_4(points: &[i32], triangles: &[u8], list: &[u8]) -> bool {
     let mut room = [0u8; FACES];
-    put_faces(points, list, &mut room);
-    let n = upto(start(list.len() / 4, 12), FACES);
+    let n = upto(put_faces(points, list, &mut room), FACES);
     are_matched(triangles, &room[0..n])
 }
 
@@ -144,11 +136,12 @@ fn things(law: u32, points: &[i32], kept: &[u8], list: &[u8]) -> usize {
 
 // Whether the i-th of them breaks the law, which is not law 4.
 fn breaks(law: u32, points: &[i32], kept: &[u8], table: &[i32], list: &[u8], i: usize) -> bool {
+    let f = listed(list, i);
     match law {
         1 => !is_in_order(list, i, points.len() / 3),
-        2 => !has_quality(points, table, listed(list, i)),
-        3 => holds_a_point(points, listed(list, i)),
-        5 => !is_apart_from(points, list, listed(list, i), up(i)),
+        2 => !has_quality(points, table, f),
+        3 => holds_a_point(points, f),
+        5 => !is_apart_from(points, list, f, up(i)),
         6 => !is_edge(list, i, i),
         _ => !is_edge(
             list,

@@ -1,5 +1,4 @@
 // What a line says that the answer is.
-use check::same;
 use judge::judge::Verdict;
 use lines::number::Number;
 use lines::number::decimal;
@@ -22,22 +21,22 @@ pub fn number_of(t: &[u8]) -> Expected {
     Expected::Number(k)
 }
 
+// The letter that the text is, 0 where it is none.
+pub fn letter(t: &[u8]) -> u8 {
+    if t.len() == 1 { t[0] } else { 0 }
+}
+
 // W,q or L,k or R,k.
 pub fn result_of(t: &[u8]) -> Expected {
-    let kind = before(t, b',');
     let Number::Is(k) = decimal(after(t, b',')) else {
         return Expected::Nothing;
     };
-    if same(kind, b"W") {
-        return Expected::Lawful(k);
+    match letter(before(t, b',')) {
+        b'W' => Expected::Lawful(k),
+        b'L' => Expected::Breaks(k),
+        b'R' => Expected::Refused(k),
+        _ => Expected::Nothing,
     }
-    if same(kind, b"L") {
-        return Expected::Breaks(k);
-    }
-    if same(kind, b"R") {
-        return Expected::Refused(k);
-    }
-    Expected::Nothing
 }
 
 fn is_verdict(v: Verdict, number: u64, law: u64, worst: u64) -> bool {

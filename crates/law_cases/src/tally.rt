@@ -2,100 +2,80 @@
 use crate::answer::Answer;
 use crate::answer::answer_of;
 use crate::expected::agrees;
+use crate::expected::letter;
 use crate::expected::number_of;
 use crate::expected::result_of;
-use check::same;
 use judge::judge::Verdict;
 use lines::tally::next;
 use lines::tally::print;
 use lines::tally::print_count;
+use lines::tally::print_counts;
 use lines::text::after;
 use lines::text::before;
 use lines::text::past;
 
-// Counts by what they count. Jobs by the checker's number stand from NUMBERS on, 0 for those that it lets pass; lists of jobs that pass from LAWS on, by the lowest
+// Counts in the order in which they are printed. Jobs by the checker's number: PASS for 0, and 2 to 13 behind it; lists of jobs that pass from LAWS on, by the lowest
 // law broken, 0 for lawful ones; the other lists are refused.
 pub struct Tally {
-    counts: [u64; 32],
+    counts: [u64; 28],
 }
 
 const LINES: usize = 0;
 
-const JOBS: usize = 1;
+const UNREAD: usize = 1;
 
-const LISTS: usize = 2;
+const JOBS: usize = 2;
 
-const UNREAD: usize = 3;
+const PASS: usize = 3;
 
-const AGREE: usize = 4;
+const LISTS: usize = 16;
 
-const DIFFER: usize = 5;
+const REFUSED: usize = 17;
 
-const REFUSED: usize = 6;
+const AGREE: usize = 26;
 
-const LAWS: usize = 8;
-
-const NUMBERS: usize = 16;
+const DIFFER: usize = 27;
 
 // The most lines that are named as different.
 const NAMED: u64 = 5;
 
 fn is_job(line: &[u8]) -> bool {
-    same(before(line, b';'), b"J")
+    letter(before(line, b';')) == b'J'
 }
 
 fn is_list(line: &[u8]) -> bool {
-    same(before(line, b';'), b"L")
+    letter(before(line, b';')) == b'L'
 }
 
 // Where jobs of this number are counted; past the end where there are none.
 fn number_place(number: u32) -> usize {
-    if number < 14 {
-        16 + number as usize
-    } else {
-        32
+    match number {
+        0 => PASS,
+        2..=13 => 2 + number as usize,
+        _ => 28,
     }
 }
 
 // Where lists that break this law are counted.
 fn law_place(law: u32) -> usize {
-    if law < 8 { 8 + law as usize } else { 32 }
+    if law < 8 { 18 + law as usize } else { 28 }
 }
 
 impl Tally {
     fn new() -> Self {
-        Tally { counts: [0; 32] }
+        Tally { counts: [0; 28] }
     }
 
     // One more of what is counted there.
     fn more(mut self, at: usize) -> Self {
-        if at < 32 {
+        if at < 28 {
             self.counts[at] = next(self.counts[at]);
         }
         self
     }
 
     fn count(self, at: usize) -> u64 {
-        if at < 32 { self.counts[at] } else { 0 }
-    }
-
-    fn count_behind(self, from: usize, k: usize) -> u64 {
-        if from < 32 {
-            if k < 32 {
-                return self.count(from + k);
-            }
-        }
-        0
-    }
-
-    // Each count behind from, from the first to before the last, with what it counts and its place.
-    fn print_each(self, from: usize, first: usize, last: usize, what: &[u8]) {
-        for k in first..last {
-            print(b", ");
-            print_count(self.count_behind(from, k), what);
-            print_count(k as u64, b"");
-        }
-        print(b"\n");
+        if at < 28 { self.counts[at] } else { 0 }
     }
 
     fn with_number(self, number: u32) -> Self {
@@ -167,26 +147,14 @@ impl Tally {
         }
     }
 
-    fn print_jobs(self) {
-        print_count(self.count(LINES), b" lines, ");
-        print_count(self.count(UNREAD), b" unread\n");
-        print_count(self.count(JOBS), b" jobs: ");
-        print_count(self.count(NUMBERS), b" pass");
-        self.print_each(NUMBERS, 2, 14, b" refused ");
-    }
-
-    fn print_lists(self) {
-        print_count(self.count(LISTS), b" lists: ");
-        print_count(self.count(REFUSED), b" of a refused job, ");
-        print_count(self.count(LAWS), b" lawful");
-        self.print_each(LAWS, 1, 8, b" break law ");
-    }
-
     pub fn print(self) {
-        self.print_jobs();
-        self.print_lists();
-        print_count(self.count(AGREE), b" agree, ");
-        print_count(self.count(DIFFER), b" differ\n");
+        let counts = self.counts;
+        print_counts(
+            &counts,
+            b" lines, ; unread\n; jobs: ; pass, ; refused 2, ; refused 3, ; refused 4, ; refused 5, ; refused 6, ; refused 7, ; refused 8, ; refused 9, ; refused 10, ; \
+            refused 11, ; refused 12, ; refused 13\n; lists: ; of a refused job, ; lawful, ; break law 1, ; break law 2, ; break law 3, ; break law 4, ; break law 5, ; \
+            break law 6, ; break law 7\n; agree, ; differ\n;",
+        );
     }
 }
 

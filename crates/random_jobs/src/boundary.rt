@@ -120,8 +120,7 @@ fn any_twice(faces: &[u8]) -> bool {
 // Whether two fours of the list have a face in common and lie on the same side of it; so do two that are the same.
 fn shares_face(points: &[i32], list: &[u8]) -> bool {
     let mut faces = [0u8; FACES];
-    put_faces(points, list, &mut faces);
-    let n = upto(start(list.len() / 4, 12), FACES);
+    let n = upto(put_faces(points, list, &mut faces), FACES);
     any_twice(&faces[0..n])
 }
 
@@ -188,8 +187,7 @@ fn put_unmatched(faces: &[u8], d: u64, out: &mut [u8]) -> usize {
 // The same, of the faces of the chosen fours.
 fn put_sides(d: u64, points: &[i32], chosen: &[u8], out: &mut [u8]) -> usize {
     let mut faces = [0u8; FACES];
-    put_faces(points, chosen, &mut faces);
-    let n = upto(start(chosen.len() / 4, 12), FACES);
+    let n = upto(put_faces(points, chosen, &mut faces), FACES);
     put_unmatched(&faces[0..n], d, out)
 }
 

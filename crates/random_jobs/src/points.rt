@@ -48,26 +48,32 @@ fn sum(v: u64, w: u64) -> i32 {
     0
 }
 
-// One of -3 to 3.
+// v - 3, for small ones; below 0 by the complement.
 fn centred(v: u64) -> i32 {
-    match v {
-        0 => -3,
-        1 => -2,
-        2 => -1,
-        3 => 0,
-        4 => 1,
-        5 => 2,
-        _ => 3,
+    if v < 3 {
+        return !((2 - v) as i32);
+    }
+    sum(v - 3, 0)
+}
+
+// Of how many numbers a coordinate is drawn.
+fn spread(style: u64) -> u64 {
+    match style {
+        0 => 3,
+        1 => 5,
+        2 => 7,
+        3 => 10,
+        _ => 12,
     }
 }
 
 fn coordinate(seed: u64, place: u64) -> i32 {
-    match drawn(seed, STYLE, 5) {
-        0 => sum(0, drawn(seed, place, 3)),
-        1 => sum(0, drawn(seed, place, 5)),
-        2 => centred(drawn(seed, place, 7)),
-        3 => sum(0, drawn(seed, place, 10)),
-        _ => sum(2, drawn(seed, place, 12)),
+    let style = drawn(seed, STYLE, 5);
+    let v = drawn(seed, place, spread(style));
+    match style {
+        2 => centred(v),
+        4 => sum(2, v),
+        _ => sum(0, v),
     }
 }
 

@@ -7,10 +7,10 @@ use Rattle.enumerator.proofs.faces.put_faces.Statement.{statement}
 use Rattle.enumerator.proofs.faces.put_faces.Tie as tie
 
 abbrev Inv-loop : tie.InvT-loop
-Inv-loop points list out₀ i₀ i-end out i = length out ≡ length out₀
+Inv-loop points list out₀ n i₀ out i = length out ≡ length out₀
 
 abbrev μ-loop : tie.MeasureT-loop
-μ-loop points list out₀ i₀ i-end out i = i-end - i
+μ-loop points list out₀ n i₀ out i = n - i
 
 loop-holds : tie.Need-loop-holds Inv-loop μ-loop
 loop-holds c = search needs
@@ -36,6 +36,9 @@ loop-less c = search needs
 loop-again : tie.Need-loop-again Inv-loop μ-loop
 loop-again c = search needs
 
+start-requires-2 : tie.Need-start-requires-2 Inv-loop μ-loop
+start-requires-2 c κs = search needs
+
 same-length : tie.Need-same-length Inv-loop μ-loop
 same-length c = search needs
 
@@ -56,5 +59,6 @@ put-faces-spec =
     add-i
     loop-less
     loop-again
+    start-requires-2
     same-length
     returns)

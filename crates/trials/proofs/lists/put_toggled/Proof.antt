@@ -1,10 +1,10 @@
--- `compare::lists::put_toggled` is safe and ends. Assumes nothing.
+-- `trials::lists::put_toggled` is safe and ends. Assumes nothing.
 use Prim.Native.Nat.{_-_}
 use mathlib.Core.Path.{_≡_}
 use lib.ListN.{length}
 use borrow.Author.Needs.{needs}
-use Rattle.compare.proofs.lists.put_toggled.Statement.{statement}
-use Rattle.compare.proofs.lists.put_toggled.Tie as tie
+use Rattle.trials.proofs.lists.put_toggled.Statement.{statement}
+use Rattle.trials.proofs.lists.put_toggled.Tie as tie
 
 abbrev Inv-loop : tie.InvT-loop
 Inv-loop n list k out₀ len₀ f₀ i₀ i-end out len f i = length out ≡ length out₀

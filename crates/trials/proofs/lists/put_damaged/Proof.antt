@@ -1,10 +1,10 @@
--- `compare::lists::put_damaged` is safe and ends. Assumes nothing.
+-- `trials::lists::put_damaged` is safe and ends. Assumes nothing.
 use Prim.Native.Nat.{_-_}
 use mathlib.Core.Path.{_≡_}
 use lib.ListN.{length}
 use borrow.Author.Needs.{needs}
-use Rattle.compare.proofs.lists.put_damaged.Statement.{statement}
-use Rattle.compare.proofs.lists.put_damaged.Tie as tie
+use Rattle.trials.proofs.lists.put_damaged.Statement.{statement}
+use Rattle.trials.proofs.lists.put_damaged.Tie as tie
 
 abbrev Inv-loop : tie.InvT-loop
 Inv-loop list n kind out₀ m i₀ out i = length out ≡ length out₀

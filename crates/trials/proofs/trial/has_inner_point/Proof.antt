@@ -1,26 +1,26 @@
--- `compare::trial::is_on_boundary` is safe and ends. Assumes nothing.
+-- `trials::trial::has_inner_point` is safe and ends. Assumes nothing.
 use Prim.Native.Nat.{_-_}
 use borrow.Author.Needs.{needs}
-use Rattle.compare.proofs.trial.is_on_boundary.Statement.{statement}
-use Rattle.compare.proofs.trial.is_on_boundary.Tie as tie
+use Rattle.trials.proofs.trial.has_inner_point.Statement.{statement}
+use Rattle.trials.proofs.trial.has_inner_point.Tie as tie
 
 abbrev Inv-loop : tie.InvT-loop
-Inv-loop triangles p i₀ i-end i = Unit {0}
+Inv-loop points triangles p₀ p-end p = Unit {0}
 
 abbrev μ-loop : tie.MeasureT-loop
-μ-loop triangles p i₀ i-end i = i-end - i
+μ-loop points triangles p₀ p-end p = p-end - p
 
 loop-holds : tie.Need-loop-holds Inv-loop μ-loop
 loop-holds c = search needs
 
-byte-at-requires : tie.Need-byte-at-requires Inv-loop μ-loop
-byte-at-requires c κs = search needs
+is-on-boundary-requires : tie.Need-is-on-boundary-requires Inv-loop μ-loop
+is-on-boundary-requires c κs = search needs
 
 returns : tie.Need-returns Inv-loop μ-loop
 returns c = search needs
 
-add-i : tie.Need-add-i Inv-loop μ-loop
-add-i c = search needs
+add-p : tie.Need-add-p Inv-loop μ-loop
+add-p c = search needs
 
 loop-less : tie.Need-loop-less Inv-loop μ-loop
 loop-less c = search needs
@@ -31,16 +31,16 @@ loop-again c = search needs
 returns-2 : tie.Need-returns-2 Inv-loop μ-loop
 returns-2 c = search needs
 
-pub is-on-boundary-spec : {M : Type 1} → statement M
-is-on-boundary-spec =
+pub has-inner-point-spec : {M : Type 1} → statement M
+has-inner-point-spec =
     tie.close
     (tie.spec
     Inv-loop
     μ-loop
     loop-holds
-    byte-at-requires
+    is-on-boundary-requires
     returns
-    add-i
+    add-p
     loop-less
     loop-again
     returns-2)

@@ -33,7 +33,7 @@ const WAYS: usize = 12;
 const SAMPLE: usize = 64;
 
 // Whether the judge says this of the list.
-pub fn is_verdict(
+pub(crate) fn is_verdict(
     points: &[i32],
     triangles: &[u8],
     kept: &[u8],
@@ -178,7 +178,7 @@ fn with_list(
 }
 
 // Compares the judge on lists near the base, which is a filling or the chosen fours, and on subsets of the pool.
-pub fn with_lists(
+pub(crate) fn with_lists(
     seed: u64,
     points: &[i32],
     triangles: &[u8],

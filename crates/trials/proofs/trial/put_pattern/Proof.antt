@@ -1,31 +1,28 @@
--- `enumerator::fours::put_four` is safe and ends. Assumes nothing.
+-- `trials::trial::put_pattern` is safe and ends. Assumes nothing.
 use Prim.Native.Nat.{_-_}
 use mathlib.Core.Path.{_≡_}
 use lib.ListN.{length}
 use borrow.Author.Needs.{needs}
-use Rattle.enumerator.proofs.fours.put_four.Statement.{statement}
-use Rattle.enumerator.proofs.fours.put_four.Tie as tie
+use Rattle.trials.proofs.trial.put_pattern.Statement.{statement}
+use Rattle.trials.proofs.trial.put_pattern.Tie as tie
 
 abbrev Inv-loop : tie.InvT-loop
-Inv-loop out₀ at f k₀ out k = length out ≡ length out₀
+Inv-loop out₀ i₀ i-end out i = length out ≡ length out₀
 
 abbrev μ-loop : tie.MeasureT-loop
-μ-loop out₀ at f k₀ out k = 4 - k
+μ-loop out₀ i₀ i-end out i = i-end - i
 
 loop-holds : tie.Need-loop-holds Inv-loop μ-loop
 loop-holds c = search needs
 
-offset-requires : tie.Need-offset-requires Inv-loop μ-loop
-offset-requires c κs = search needs
-
-corner-requires : tie.Need-corner-requires Inv-loop μ-loop
-corner-requires c κs = search needs
+pattern-requires : tie.Need-pattern-requires Inv-loop μ-loop
+pattern-requires c κs = search needs
 
 put-requires : tie.Need-put-requires Inv-loop μ-loop
 put-requires c κs = search needs
 
-add-k : tie.Need-add-k Inv-loop μ-loop
-add-k c = search needs
+add-i : tie.Need-add-i Inv-loop μ-loop
+add-i c = search needs
 
 loop-less : tie.Need-loop-less Inv-loop μ-loop
 loop-less c = search needs
@@ -39,17 +36,16 @@ same-length c = search needs
 returns : tie.Need-returns Inv-loop μ-loop
 returns c = search needs
 
-pub put-four-spec : {M : Type 1} → statement M
-put-four-spec =
+pub put-pattern-spec : {M : Type 1} → statement M
+put-pattern-spec =
     tie.close
     (tie.spec
     Inv-loop
     μ-loop
     loop-holds
-    offset-requires
-    corner-requires
+    pattern-requires
     put-requires
-    add-k
+    add-i
     loop-less
     loop-again
     same-length

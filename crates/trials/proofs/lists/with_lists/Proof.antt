@@ -1,8 +1,8 @@
--- `compare::lists::with_lists` is safe and ends. Assumes nothing.
+-- `trials::lists::with_lists` is safe and ends. Assumes nothing.
 use Prim.Native.Nat.{_-_}
 use borrow.Author.Needs.{needs}
-use Rattle.compare.proofs.lists.with_lists.Statement.{statement}
-use Rattle.compare.proofs.lists.with_lists.Tie as tie
+use Rattle.trials.proofs.lists.with_lists.Statement.{statement}
+use Rattle.trials.proofs.lists.with_lists.Tie as tie
 
 abbrev Inv-loop : tie.InvT-loop
 Inv-loop seed points triangles kept table base pool t₀ way₀ way-end t way = Unit {0}
