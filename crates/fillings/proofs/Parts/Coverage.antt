@@ -1,0 +1,92 @@
+-- Laws 6 and 7 by members: every point a corner, every kept edge an edge of some four. Assumes nothing.
+use mathlib.Core.Path.{_≡_, refl}
+use mathlib.Core.Bool.{true, _&&_}
+use mathlib.Core.Logic.{_⊎_, inl, inr}
+use mathlib.Core.List.{List, [], _∷_}
+use Prim.Native.Nat.{ℕ, zero, suc, _+_, _<_}
+use native.Mathlib.Omega.{arith}
+use lib.ListN.{length}
+use Rattle.geometry.specs.declared.tetrahedron.Four.{Four}
+use Rattle.laws.specs.Laws.{Job, Edge, law-6, law-7, corner-of, is-corner, corners-from, holds-edge, all-kept}
+use Rattle.laws.specs.inner.Members.{Any, here, there, In}
+use Rattle.laws.proofs.Basics.Tests.{contradiction, and-true, and-of, or-true, or-left, or-right}
+use Rattle.laws.proofs.Basics.Lists.{Each, none, more, find, any-of-member}
+
+pub is-corner-true : (p : ℕ) (fs : List Four) → is-corner p fs ≡ true → Any (λ f. corner-of p f ≡ true) fs
+unfolding is-corner
+is-corner-true p [] h = contradiction h refl
+is-corner-true p (f ∷ fs) h = go (or-true (corner-of p f) (is-corner p fs) h) (is-corner-true p fs)
+  where
+    go : (corner-of p f ≡ true) ⊎ (is-corner p fs ≡ true) → (is-corner p fs ≡ true → Any (λ f. corner-of p f ≡ true) fs) → Any (λ f. corner-of p f ≡ true) (f ∷ fs)
+    go (inl e) r = here e
+    go (inr e) r = there (r e)
+
+pub is-corner-of : (p : ℕ) {fs : List Four} → Any (λ f. corner-of p f ≡ true) fs → is-corner p fs ≡ true
+unfolding is-corner
+is-corner-of p (here {x = f} {xs = fs} e) = or-left (is-corner p fs) e
+is-corner-of p (there {x = f} m) = or-right (corner-of p f) (is-corner-of p m)
+
+corners-from-true : (n p : ℕ) (fs : List Four) → corners-from n p fs ≡ true → (q : ℕ) → q < n → is-corner (p + q) fs ≡ true
+unfolding corners-from
+corners-from-true zero p fs h q l = absurd (omega arith)
+corners-from-true (suc n) p fs h zero l =
+    let e : p + 0 ≡ p = omega arith in rw e (and-true (is-corner p fs) (corners-from n (suc p) fs) h .0)
+corners-from-true (suc n) p fs h (suc q) l =
+    let e : p + suc q ≡ suc p + q = omega arith in rw e (corners-from-true n (suc p) fs (and-true (is-corner p fs) (corners-from n (suc p) fs) h .1) q (omega arith))
+
+corners-from-of : (n p : ℕ) (fs : List Four) → ((q : ℕ) → q < n → is-corner (p + q) fs ≡ true) → corners-from n p fs ≡ true
+unfolding corners-from
+corners-from-of zero p fs h = refl
+corners-from-of (suc n) p fs h =
+    and-of (let e : p + 0 ≡ p = omega arith in rw e at (h 0 (omega arith))) (corners-from-of n (suc p) fs (λ q l. let e : p + suc q ≡ suc p + q = omega arith in rw e at (h (suc q) (omega arith))))
+
+pub law-6-true : (j : Job) (fs : List Four) → law-6 j fs ≡ true → (p : ℕ) → p < length (j .points) → is-corner p fs ≡ true
+unfolding law-6
+law-6-true j fs h p l = let e : 0 + p ≡ p = omega arith in rw e at (corners-from-true (length (j .points)) 0 fs h p l)
+
+pub law-6-of : (j : Job) (fs : List Four) → ((p : ℕ) → p < length (j .points) → is-corner p fs ≡ true) → law-6 j fs ≡ true
+unfolding law-6
+law-6-of j fs h = corners-from-of (length (j .points)) 0 fs (λ q l. let e : 0 + q ≡ q = omega arith in rw e (h q l))
+
+-- ---- edges
+abbrev pub On-edge : Edge → Four → Type 0
+On-edge e f = (corner-of (e .a) f && corner-of (e .b) f) ≡ true
+
+pub holds-edge-true : (e : Edge) (fs : List Four) → holds-edge e fs ≡ true → Any (On-edge e) fs
+unfolding holds-edge
+holds-edge-true e [] h = contradiction h refl
+holds-edge-true e (f ∷ fs) h = go (or-true (corner-of (e .a) f && corner-of (e .b) f) (holds-edge e fs) h) (holds-edge-true e fs)
+  where
+    go : On-edge e f ⊎ (holds-edge e fs ≡ true) → (holds-edge e fs ≡ true → Any (On-edge e) fs) → Any (On-edge e) (f ∷ fs)
+    go (inl p) r = here p
+    go (inr p) r = there (r p)
+
+pub holds-edge-of : (e : Edge) {fs : List Four} → Any (On-edge e) fs → holds-edge e fs ≡ true
+unfolding holds-edge
+holds-edge-of e (here {xs = fs} p) = or-left (holds-edge e fs) p
+holds-edge-of e (there {x = f} m) = or-right (corner-of (e .a) f && corner-of (e .b) f) (holds-edge-of e m)
+
+pub all-kept-true : (es : List Edge) (fs : List Four) → all-kept es fs ≡ true → Each (λ e. holds-edge e fs ≡ true) es
+unfolding all-kept
+all-kept-true [] fs h = none
+all-kept-true (e ∷ es) fs h = let p = and-true (holds-edge e fs) (all-kept es fs) h in more (p .0) (all-kept-true es fs (p .1))
+
+all-kept-of : {es : List Edge} (fs : List Four) → Each (λ e. holds-edge e fs ≡ true) es → all-kept es fs ≡ true
+unfolding all-kept
+all-kept-of fs none = refl
+all-kept-of fs (more p e) = and-of p (all-kept-of fs e)
+
+pub law-7-true : (j : Job) (fs : List Four) → law-7 j fs ≡ true → Each (λ e. holds-edge e fs ≡ true) (j .kept)
+unfolding law-7
+law-7-true j fs h = all-kept-true (j .kept) fs h
+
+pub law-7-of : (j : Job) (fs : List Four) → Each (λ e. holds-edge e fs ≡ true) (j .kept) → law-7 j fs ≡ true
+unfolding law-7
+law-7-of j fs h = all-kept-of fs h
+
+-- more fours cover more
+pub is-corner-subset : (p : ℕ) {S R : List Four} → ((f : Four) → In f S → In f R) → is-corner p S ≡ true → is-corner p R ≡ true
+is-corner-subset p {S} i h = let r = find (is-corner-true p S h) in is-corner-of p (any-of-member (i (r .one) (r .stands)) (r .so))
+
+pub holds-edge-subset : (e : Edge) {S R : List Four} → ((f : Four) → In f S → In f R) → holds-edge e S ≡ true → holds-edge e R ≡ true
+holds-edge-subset e {S} i h = let r = find (holds-edge-true e S h) in holds-edge-of e (any-of-member (i (r .one) (r .stands)) (r .so))
