@@ -1,0 +1,325 @@
+// Pools of candidates: the fours that a lawful filling can hold, each by itself, gathered in order with their faces' numbers and their qualities.
+ghost use mathlib.Core.Path.{_≡_};
+ghost use mathlib.Core.Bool.{true, _||_};
+ghost use mathlib.Core.List.{List};
+ghost use Prim.Native.Nat.{_+_, _*_, _/_, _<_, _≤_};
+ghost use lib.Dec.{ltb};
+ghost use lib.ListN.{length, getD, set};
+ghost use Rattle.geometry.specs.Space.{V3, points-in, turned};
+ghost use Rattle.laws.specs.Laws.{tri, fours-in, entry, place, quality};
+ghost use Rattle.laws.specs.Lists.{job-lists};
+ghost use Rattle.laws.specs.Check.{job, job-refusal};
+ghost use Rattle.laws.specs.inner.FaceCodes.{face-code, flip-code};
+ghost use Rattle.laws.specs.inner.NextFour.{Ordered};
+ghost use Rattle.fillings.specs.Codes.{Bound-flags};
+ghost use Rattle.fillings.specs.Filing.{put-four, put-faces, copied, Considered};
+ghost use Rattle.fillings.specs.Marks.{marked};
+ghost use Rattle.fillings.specs.Part.{candidate};
+ghost use Rattle.fillings.specs.Pierce.{pierces-four, pierced};
+ghost use Rattle.fillings.specs.Tables.{Filed, Whole};
+ghost use Rattle.signs.specs.Rows.{Rows, Distinct-below};
+use checker::table::next_four;
+use geometry::tetrahedron::Four;
+use signs::codes::face_code;
+use signs::codes::flip;
+use signs::sides::any_inside;
+use signs::sides::edge_pierces;
+use signs::sides::is_solid;
+use signs::sides::oriented;
+
+// The faces of a tetrahedron by code, outward where it is read in the order that makes its volume positive.
+struct Faces {
+    a: u16,
+    b: u16,
+    c: u16,
+    d: u16,
+}
+
+// The numbers of the faces (a,c,b), (a,b,d), (a,d,c), (b,c,d).
+fn face_codes(f: Four) -> Faces
+    requires { ⌜ (f .a < 16) × (f .b < 16) × (f .c < 16) × (f .d < 16) ⌝ }
+    ensures { λ r. ⌜ (r .a ≡ face-code (tri (f .a) (f .c) (f .b))) × (r .b ≡ face-code (tri (f .a) (f .b) (f .d))) × (r .c ≡ face-code (tri (f .a) (f .d) (f .c))) × (r .d ≡ face-code (tri (f .b) (f .c) (f .d))) × ((r .a < 4096) × (r .b < 4096) × (r .c < 4096) × (r .d < 4096)) ⌝ }
+{
+    Faces {
+        a: face_code(f.a, f.c, f.b) as u16,
+        b: face_code(f.a, f.b, f.d) as u16,
+        c: face_code(f.a, f.d, f.c) as u16,
+        d: face_code(f.b, f.c, f.d) as u16,
+    }
+}
+
+// Whether some face has its reverse on the boundary.
+fn backs_boundary(bound: &[u8], c: Faces) -> bool
+    requires { ⌜ (length (now bound) ≡ 4096) × ((c .a < 4096) × (c .b < 4096) × (c .c < 4096) × (c .d < 4096)) ⌝ }
+    ensures { λ r. ⌜ r ≡ ltb 0 (getD (now (bound .entry)) (flip-code (c .a)) 0) || (ltb 0 (getD (now (bound .entry)) (flip-code (c .b)) 0) || (ltb 0 (getD (now (bound .entry)) (flip-code (c .c)) 0) || ltb 0 (getD (now (bound .entry)) (flip-code (c .d)) 0))) ⌝ }
+{
+    let a = flip(c.a as usize);
+    if bound[a] > 0 {
+        return true;
+    }
+    let b = flip(c.b as usize);
+    if bound[b] > 0 {
+        return true;
+    }
+    let d = flip(c.c as usize);
+    if bound[d] > 0 {
+        return true;
+    }
+    let e = flip(c.d as usize);
+    bound[e] > 0
+}
+
+// Whether the edge from a to b runs through a face of f.
+fn edge_pierces_four(rows: &[u16], a: usize, b: usize, f: Four) -> bool
+    requires { ⌜ (length (now rows) ≡ 4096) × (a < 16) × (b < 16) × ((f .a < 16) × (f .b < 16) × (f .c < 16) × (f .d < 16)) ⌝ }
+    ensures { λ r. ⌜ ((ps : List V3) → Rows ps (now (rows .entry)) → Distinct-below (length ps) f → a < length ps → b < length ps → r ≡ pierces-four ps a b f) ⌝ }
+{
+    if edge_pierces(rows, a, b, f.a, f.b, f.c) {
+        return true;
+    }
+    if edge_pierces(rows, a, b, f.a, f.b, f.d) {
+        return true;
+    }
+    if edge_pierces(rows, a, b, f.a, f.c, f.d) {
+        return true;
+    }
+    edge_pierces(rows, a, b, f.b, f.c, f.d)
+}
+
+// Whether some kept edge does.
+fn is_pierced(
+    points: &[i32],
+    triangles: &[u8],
+    kept: &[u8],
+    table: &[i32],
+    rows: &[u16],
+    f: Four,
+) -> bool
+    requires { ⌜ (job-refusal (job-lists (now points) (now triangles) (now kept) (now table)) ≡ 0) × Rows (points-in (now points)) (now rows) × Distinct-below (length (points-in (now points))) f ⌝ }
+    ensures { λ r. ⌜ r ≡ pierced (points-in (now (points .entry))) (job (job-lists (now (points .entry)) (now (triangles .entry)) (now (kept .entry)) (now (table .entry))) .kept) f ⌝ }
+{
+    for i in 0..kept.len() / 2 {
+        let a = kept[i * 2] as usize;
+        let b = kept[i * 2 + 1] as usize;
+        if edge_pierces_four(rows, a, b, f) {
+            return true;
+        }
+    }
+    false
+}
+
+// Whether f can stand in a lawful filling, but for its quality.
+fn can_stand(
+    points: &[i32],
+    triangles: &[u8],
+    kept: &[u8],
+    table: &[i32],
+    rows: &[u16],
+    bound: &[u8],
+    n: usize,
+    f: Four,
+) -> bool
+    requires { ⌜ (job-refusal (job-lists (now points) (now triangles) (now kept) (now table)) ≡ 0) × Rows (points-in (now points)) (now rows) × Bound-flags (job (job-lists (now points) (now triangles) (now kept) (now table)) .triangles) (now bound) × (length (now bound) ≡ 4096) × (n ≡ length (points-in (now points))) × Ordered n f ⌝ }
+    ensures { λ r. ⌜ (0 < quality (entry (job (job-lists (now (points .entry)) (now (triangles .entry)) (now (kept .entry)) (now (table .entry)))) f) → r ≡ candidate (job (job-lists (now (points .entry)) (now (triangles .entry)) (now (kept .entry)) (now (table .entry)))) f) ⌝ }
+{
+    if !is_solid(rows, f) {
+        return false;
+    }
+    let g = oriented(rows, f);
+    if backs_boundary(bound, face_codes(g)) {
+        return false;
+    }
+    if any_inside(rows, g) {
+        return false;
+    }
+    !is_pierced(points, triangles, kept, table, rows, f)
+}
+
+// Writes the bytes of a four at the place k.
+pub fn put_four(fours: &mut [u8], k: usize, a: u8, b: u8, c: u8, d: u8)
+    requires { ⌜ k * 4 + 4 ≤ length (now fours) ⌝ }
+    ensures { λ r. ⌜ now (fours .exit) ≡ put-four k a b c d (now (fours .entry)) ⌝ }
+{
+    fours[k * 4] = a;
+    fours[k * 4 + 1] = b;
+    fours[k * 4 + 2] = c;
+    fours[k * 4 + 3] = d;
+}
+
+// Writes the face numbers of a four at the place k.
+fn put_faces(codes: &mut [u16], k: usize, c: Faces)
+    requires { ⌜ k * 4 + 4 ≤ length (now codes) ⌝ }
+    ensures { λ r. ⌜ now (codes .exit) ≡ put-four k (c .a) (c .b) (c .c) (c .d) (now (codes .entry)) ⌝ }
+{
+    codes[k * 4] = c.a;
+    codes[k * 4 + 1] = c.b;
+    codes[k * 4 + 2] = c.c;
+    codes[k * 4 + 3] = c.d;
+}
+
+// Writes the candidate f at the place k.
+fn file(
+    points: &[i32],
+    rows: &[u16],
+    fours: &mut [u8],
+    codes: &mut [u16],
+    quals: &mut [u32],
+    k: usize,
+    f: Four,
+    q: u32,
+)
+    requires { ⌜ Rows (points-in (now points)) (now rows) × Distinct-below (length (points-in (now points))) f × ((f .a < 16) × (f .b < 16) × (f .c < 16) × (f .d < 16)) × (k < 1820) × (length (now fours) ≡ 7280) × (length (now codes) ≡ 7280) × (length (now quals) ≡ 1820) ⌝ }
+    ensures { λ r. ⌜ (now (fours .exit) ≡ put-four k (f .a) (f .b) (f .c) (f .d) (now (fours .entry))) × (now (codes .exit) ≡ put-faces k (turned (points-in (now (points .entry))) f) (now (codes .entry))) × (now (quals .exit) ≡ set (now (quals .entry)) k q) ⌝ }
+{
+    let c = face_codes(oriented(rows, f));
+    put_four(fours, k, f.a as u8, f.b as u8, f.c as u8, f.d as u8);
+    put_faces(codes, k, c);
+    quals[k] = q;
+}
+
+// Files f where it is a candidate of quality q at least; how many are filed then.
+fn consider_four(
+    points: &[i32],
+    triangles: &[u8],
+    kept: &[u8],
+    table: &[i32],
+    rows: &[u16],
+    bound: &[u8],
+    n: usize,
+    q: u32,
+    f: Four,
+    at: usize,
+    fours: &mut [u8],
+    codes: &mut [u16],
+    quals: &mut [u32],
+    k: usize,
+) -> usize
+    requires { ⌜ (job-refusal (job-lists (now points) (now triangles) (now kept) (now table)) ≡ 0) × Rows (points-in (now points)) (now rows) × Bound-flags (job (job-lists (now points) (now triangles) (now kept) (now table)) .triangles) (now bound) × (length (now bound) ≡ 4096) × (n ≡ length (points-in (now points))) × Ordered n f × (at ≡ place n f) × (0 < q) × (length (now fours) ≡ 7280) × (length (now codes) ≡ 7280) × (length (now quals) ≡ 1820) × (candidate (job (job-lists (now points) (now triangles) (now kept) (now table))) f ≡ true → k < 1820) ⌝ }
+    ensures { λ r. ⌜ Considered (job (job-lists (now (points .entry)) (now (triangles .entry)) (now (kept .entry)) (now (table .entry)))) q f (now (fours .entry)) (now (codes .entry)) (now (quals .entry)) k (now (fours .exit)) (now (codes .exit)) (now (quals .exit)) r ⌝ }
+{
+    let e = table[at];
+    if e <= 0 {
+        return k;
+    }
+    let v = e as u32;
+    if v < q {
+        return k;
+    }
+    if !can_stand(points, triangles, kept, table, rows, bound, n, f) {
+        return k;
+    }
+    file(points, rows, fours, codes, quals, k, f, v);
+    k + 1
+}
+
+// The candidates of quality q at least.
+pub fn gather(
+    points: &[i32],
+    triangles: &[u8],
+    kept: &[u8],
+    table: &[i32],
+    rows: &[u16],
+    bound: &[u8],
+    q: u32,
+    fours: &mut [u8],
+    codes: &mut [u16],
+    quals: &mut [u32],
+) -> usize
+    requires { ⌜ (job-refusal (job-lists (now points) (now triangles) (now kept) (now table)) ≡ 0) × Rows (points-in (now points)) (now rows) × Bound-flags (job (job-lists (now points) (now triangles) (now kept) (now table)) .triangles) (now bound) × (length (now bound) ≡ 4096) × (0 < q) × (length (now fours) ≡ 7280) × (length (now codes) ≡ 7280) × (length (now quals) ≡ 1820) ⌝ }
+    ensures { λ r. ⌜ Whole (now (points .entry)) (now (triangles .entry)) (now (kept .entry)) (now (table .entry)) q (now (fours .exit)) (now (codes .exit)) (now (quals .exit)) r ⌝ }
+{
+    let n = points.len() / 3;
+    let mut f = Four {
+        a: 0,
+        b: 1,
+        c: 2,
+        d: 3,
+    };
+    let mut at: usize = 0;
+    let mut k: usize = 0;
+    while f.d < n {
+        k = consider_four(
+            points,
+            triangles,
+            kept,
+            table,
+            rows,
+            bound,
+            n,
+            q,
+            f,
+            at,
+            fours,
+            codes,
+            quals,
+            k,
+        );
+        f = next_four(n, f);
+        at += 1;
+    }
+    k
+}
+
+// Writes the candidate k of one pool as the candidate c of another.
+fn copy_candidate(
+    fours: &[u8],
+    codes: &[u16],
+    quals: &[u32],
+    k: usize,
+    fours2: &mut [u8],
+    codes2: &mut [u16],
+    quals2: &mut [u32],
+    c: usize,
+)
+    requires { ⌜ (k * 4 + 4 ≤ length (now fours)) × (k * 4 + 4 ≤ length (now codes)) × (k < length (now quals)) × (c * 4 + 4 ≤ length (now fours2)) × (c * 4 + 4 ≤ length (now codes2)) × (c < length (now quals2)) ⌝ }
+    ensures { λ r. ⌜ (now (fours2 .exit) ≡ copied k c (now (fours .entry)) (now (fours2 .entry))) × (now (codes2 .exit) ≡ copied k c (now (codes .entry)) (now (codes2 .entry))) × (now (quals2 .exit) ≡ set (now (quals2 .entry)) c (getD (now (quals .entry)) k 0)) ⌝ }
+{
+    put_four(
+        fours2,
+        c,
+        fours[k * 4],
+        fours[k * 4 + 1],
+        fours[k * 4 + 2],
+        fours[k * 4 + 3],
+    );
+    put_faces(
+        codes2,
+        c,
+        Faces {
+            a: codes[k * 4],
+            b: codes[k * 4 + 1],
+            c: codes[k * 4 + 2],
+            d: codes[k * 4 + 3],
+        },
+    );
+    quals2[c] = quals[k];
+}
+
+// The alive ones of a pool as a pool of their own.
+pub fn compact(
+    points: &[i32],
+    triangles: &[u8],
+    kept: &[u8],
+    table: &[i32],
+    fours: &[u8],
+    codes: &[u16],
+    quals: &[u32],
+    m: usize,
+    marks: &[u8],
+    fours2: &mut [u8],
+    codes2: &mut [u16],
+    quals2: &mut [u32],
+) -> usize
+    requires { ⌜ Filed (now points) (now triangles) (now kept) (now table) (now fours) (now codes) (now quals) m × (m ≤ length (now marks)) × (length (now fours2) ≡ 7280) × (length (now codes2) ≡ 7280) × (length (now quals2) ≡ 1820) ⌝ }
+    ensures { λ r. ⌜ Filed (now (points .entry)) (now (triangles .entry)) (now (kept .entry)) (now (table .entry)) (now (fours2 .exit)) (now (codes2 .exit)) (now (quals2 .exit)) r × (fours-in r (now (fours2 .exit)) ≡ marked 1 (fours-in m (now (fours .entry))) (now (marks .entry))) ⌝ }
+{
+    let mut c: usize = 0;
+    for k in 0..m {
+        let x = marks[k];
+        if x == 1 {
+            copy_candidate(fours, codes, quals, k, fours2, codes2, quals2, c);
+            c += 1;
+        }
+    }
+    c
+}
