@@ -1,0 +1,90 @@
+-- What a face and a corner answer, from what was settled, set and tried. Assumes nothing.
+use mathlib.Core.Path.{_≡_, refl, sym, _∙_}
+use mathlib.Core.Bool.{Bool, true, false, true≢false}
+use mathlib.Core.List.{List}
+use Prim.Native.Nat.{ℕ, _≤_}
+use lib.IntN.{ℤ}
+use Rattle.geometry.specs.declared.tetrahedron.Four.{Four}
+use Rattle.laws.specs.Laws.{Job, fours-in}
+use Rattle.laws.specs.Lists.{job-lists}
+use Rattle.laws.specs.Check.{job}
+use Rattle.fillings.specs.Marks.{marked, Reduced, Cornered}
+use Rattle.fillings.specs.Steps.{Context}
+use Rattle.fillings.proofs.ByNumber.FaceLoop.{tried-all}
+use Rattle.fillings.proofs.ByNumber.Reduction.{reduced-back}
+use Rattle.fillings.proofs.ByCode.Context.{tried-none}
+use Rattle.trail.specs.Counts.{Counts}
+use Rattle.trail.specs.State.{Living}
+use Rattle.trail.proofs.Tracing.{traced-counts}
+use Rattle.trail.proofs.Trailing.{trailed-trans}
+use Rattle.settling.specs.Moves.{Settlement}
+use Rattle.extension.specs.Explored.{Sized, Explored, Explored-corner}
+use Rattle.shaving.specs.Shaved.{As-it-was}
+use Rattle.shaving.proofs.Shaving.TakingBack.{counts-back, living-back}
+use Rattle.extension.proofs.Exploring.OwnersLoop.{Exploring, exploring-counts}
+
+pub sized-now : {m : ℕ} {codes ns ow held ur : List ℕ} {end : ℕ} → Living m codes ns ow ur end → Counts 2 m codes ns held → Sized ns ow held ur
+sized-now h g = record { marks-long = h .marks-long; owners-long = h .alive .long; held-long = g .long; trail-long = h .trail-long }
+
+-- ---- a corner: nothing found, and the state is as it was
+pub corner-failed :
+    {j : Job} {cs : List Four} {m t : ℕ} {codes ms ow held tr : List ℕ} {top : ℕ} {found : Bool} {rs ns ow2 held2 ur : List ℕ} → Living m codes ms ow tr top → Counts 2 m codes ms held → found ≡ false →
+    Cornered j cs ms t found rs → As-it-was m ms ow held tr top ns ow2 held2 ur → Explored-corner j cs m t ms ow held tr top false ns ow2 held2 ur
+corner-failed h g e c b =
+    record {
+      sized = sized-now (living-back b h) (counts-back b g);
+      cornered = record { yes = λ q. absurd (true≢false (sym q)); no = λ q. c .no e };
+      back = λ q. b;
+    }
+
+-- ---- a face
+pub face-found :
+    {j : Job} {cs : List Four} {m t : ℕ} {codes ms held tr : List ℕ} {top : ℕ} {ls ow1 held1 ur : List ℕ} {mid : ℕ} {found : Bool} {ns ow2 held2 vr : List ℕ} {end : ℕ} →
+    Reduced j cs ms ls → found ≡ true → Explored-corner j cs m t ls ow1 held1 ur mid found ns ow2 held2 vr → Explored j cs m codes ms held tr top found ns ow2 held2 vr end
+face-found {cs = cs} {ns = ns} d e r =
+    record {
+      sized = r .sized;
+      extended = record { yes = λ q. reduced-back d (marked 2 cs ns) (r .cornered .yes q .0); no = λ q. absurd (true≢false (sym e ∙ q)) };
+      trailed = λ q. absurd (true≢false (sym e ∙ q));
+      set = λ q. absurd (true≢false (sym e ∙ q));
+    }
+
+module _ {ps : List ℤ} {ts es : List ℕ} {qs : List ℤ} {m : ℕ} {fours codes ms held tr : List ℕ} {top kind face : ℕ} {ns ow ur : List ℕ} {end : ℕ}
+    (g : Counts 2 m codes ms held) (z : Settlement ps ts es qs m fours codes ms tr top kind face ns ow ur end) where
+  pub settled-counts : Counts 2 m codes ns held
+  settled-counts = traced-counts (z .trailed .traced) g
+
+  pub face-hopeless : kind ≡ 0 → Explored (job (job-lists ps ts es qs)) (fours-in m fours) m codes ms held tr top false ns ow held ur end
+  face-hopeless e =
+      record {
+        sized = sized-now (z .trailed .living) settled-counts;
+        extended = record { yes = λ q. absurd (true≢false (sym q)); no = λ q F f. z .settles .hopeless e F (z .settles .reduced .keeps F f) };
+        trailed = λ q. z .trailed;
+        set = λ q. refl;
+      }
+
+  pub face-done : kind ≡ 1 → Explored (job (job-lists ps ts es qs)) (fours-in m fours) m codes ms held tr top true ns ow held ur end
+  face-done e =
+      record {
+        sized = sized-now (z .trailed .living) settled-counts;
+        extended = record { yes = λ q. reduced-back (z .settles .reduced) _ (z .settles .done e); no = λ q. absurd (true≢false q) };
+        trailed = λ q. absurd (true≢false q);
+        set = λ q. absurd (true≢false q);
+      }
+
+  -- every owner of the open face failed
+  pub face-failed :
+      {bound ls ow2 held2 vr : List ℕ} {last k : ℕ} → Context ps ts es qs fours codes bound m → (kind ≡ 0 → ⊥) → (kind ≡ 1 → ⊥) → m ≤ k →
+      Exploring (job (job-lists ps ts es qs)) (fours-in m fours) m codes face ns held ur end ls ow2 held2 vr last k →
+      Explored (job (job-lists ps ts es qs)) (fours-in m fours) m codes ms held tr top false ls ow2 held2 vr last
+  face-failed x a b l s =
+      record {
+        sized = sized-now (s .trailed .living) (exploring-counts s settled-counts);
+        extended =
+            record {
+              yes = λ q. absurd (true≢false (sym q));
+              no = λ q F f. tried-none x (z .settles .opens a b) (tried-all l (s .tried)) F (z .settles .reduced .keeps F f);
+            };
+        trailed = λ q. trailed-trans (z .trailed) (s .trailed);
+        set = λ q. s .set;
+      }

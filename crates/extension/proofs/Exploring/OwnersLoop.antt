@@ -1,0 +1,74 @@
+-- The loop of a face over its owners: each is set, fails, and is dropped. Assumes nothing.
+use mathlib.Core.Path.{_≡_, refl, sym, subst, _∙_}
+use mathlib.Core.Bool.{Bool, false}
+use mathlib.Core.List.{List}
+use Prim.Native.Nat.{ℕ, _+_, _≤_, _<_}
+use native.Mathlib.Omega.{arith}
+use lib.ListN.{length, getD, set}
+use lib.IntN.{ℤ}
+use Rattle.geometry.specs.declared.tetrahedron.Four.{Four}
+use Rattle.laws.specs.Laws.{Job, fours-in}
+use Rattle.laws.specs.Lists.{job-lists}
+use Rattle.laws.specs.Check.{job}
+use Rattle.fillings.specs.Marks.{Reduced}
+use Rattle.fillings.specs.Codes.{Owns}
+use Rattle.fillings.specs.Steps.{Context}
+use Rattle.fillings.proofs.ByNumber.FaceLoop.{Tried, tried-start, tried-skip, tried-reduced}
+use Rattle.fillings.proofs.ByNumber.Reduction.{reduced-failed}
+use Rattle.fillings.proofs.ByCode.Context.{context-count}
+use Rattle.trail.specs.Counts.{Counts}
+use Rattle.trail.specs.State.{Living, Trailed}
+use Rattle.trail.proofs.Tracing.{traced-counts}
+use Rattle.trail.proofs.Trailing.{trailed-none, trailed-trans}
+use Rattle.shaving.specs.Shaved.{Discarded, As-it-was, Shaved}
+use Rattle.extension.specs.Explored.{Explored-corner}
+use Rattle.shaving.proofs.Shaving.TakingBack.{trailed-back}
+
+-- the owners of the face `at` among the first k tried, from the marks ms
+pub record Exploring (j : Job) (cs : List Four) (m : ℕ) (codes : List ℕ) (at : ℕ) (ms held tr : List ℕ) (top : ℕ) (ns ow held-now ur : List ℕ) (end k : ℕ) : Type 0 where
+  pub trailed : Trailed m codes ms tr top ns ow ur end
+  pub set : held-now ≡ held
+  pub tried : Tried j cs codes at ms ns k
+
+pub exploring-start :
+    {m : ℕ} {codes ms ow held tr : List ℕ} {top : ℕ} (j : Job) (cs : List Four) (at : ℕ) → Living m codes ms ow tr top → Exploring j cs m codes at ms held tr top ms ow held tr top 0
+exploring-start {codes = codes} {ms} j cs at h = record { trailed = trailed-none h; set = refl; tried = tried-start j cs codes at ms }
+
+module _ {j : Job} {cs : List Four} {m : ℕ} {codes : List ℕ} {at : ℕ} {ms held tr : List ℕ} {top : ℕ} {ns ow held1 ur : List ℕ} {end k : ℕ}
+    (s : Exploring j cs m codes at ms held tr top ns ow held1 ur end k) where
+  pub exploring-counts : Counts 2 m codes ms held → Counts 2 m codes ns held1
+  exploring-counts g = subst (λ (xs : List ℕ). Counts 2 m codes ns xs) (sym (s .set)) (traced-counts (s .trailed .traced) g)
+
+  -- dead, or not an owner
+  pub exploring-skip : (getD ns k 0 ≡ 1 → Owns codes k at → ⊥) → Exploring j cs m codes at ms held tr top ns ow held1 ur end (k + 1)
+  exploring-skip n = record { trailed = s .trailed; set = s .set; tried = tried-skip n (s .tried) }
+
+  -- set and taken back
+  pub exploring-back : {ls ow2 held2 vr : List ℕ} → As-it-was m ns ow held1 ur end ls ow2 held2 vr → Exploring j cs m codes at ms held tr top ls ow2 held2 vr end k
+  exploring-back b = record { trailed = trailed-back b (s .trailed); set = b .set ∙ s .set; tried = subst (λ (xs : List ℕ). Tried j cs codes at ms xs k) (sym (b .marks)) (s .tried) }
+
+  -- others dropped beside the loop
+  pub exploring-shaved :
+      {ls ow2 held2 vr : List ℕ} {last : ℕ} → k ≤ length cs → Shaved j cs m codes ns held1 ur end ls ow2 held2 vr last → Exploring j cs m codes at ms held tr top ls ow2 held2 vr last k
+  exploring-shaved l d = record { trailed = trailed-trans (s .trailed) (d .trailed); set = d .set ∙ s .set; tried = tried-reduced l (d .reduced) (s .tried) }
+
+-- an owner failed, and was dropped
+pub exploring-failed :
+    {ps : List ℤ} {ts es : List ℕ} {qs : List ℤ} {m : ℕ} {fours codes bound : List ℕ} {at : ℕ} {ms held tr : List ℕ} {top : ℕ} {ns ow held1 ur ls ow2 held2 vr : List ℕ} {end k : ℕ} {found : Bool} {xs ow3 wr : List ℕ} {last : ℕ} →
+    Context ps ts es qs fours codes bound m → k < m → getD ns k 0 ≡ 1 → Counts 2 m codes ms held → found ≡ false →
+    Explored-corner (job (job-lists ps ts es qs)) (fours-in m fours) m k ns ow held1 ur end found ls ow2 held2 vr → Discarded m codes bound held2 ls vr end k xs ow3 wr last →
+    Exploring (job (job-lists ps ts es qs)) (fours-in m fours) m codes at ms held tr top ns ow held1 ur end k →
+    Exploring (job (job-lists ps ts es qs)) (fours-in m fours) m codes at ms held tr top xs ow3 held2 wr last (k + 1)
+exploring-failed {ps} {ts} {es} {qs} {m} {fours} {codes} {bound} {ns = ns} {k = k} {xs = xs} x l a g e r d s =
+    let b = exploring-back s (r .back e) in
+    let drop = reduced-failed ns k (rw (context-count x) l) a e (r .cornered) in
+    let fewer = d .reduced ps ts es qs fours x (exploring-counts b g) (subst (λ (ys : List ℕ). Reduced (job (job-lists ps ts es qs)) (fours-in m fours) ys (set ys k 0)) (sym (r .back e .marks)) drop) in
+    record { trailed = trailed-trans (b .trailed) (d .trailed); set = b .set; tried = tried-skip (λ y o. dead (d .gone) y) (tried-reduced (omega (arith, context-count x)) fewer (b .tried)) }
+  where
+    dead : {v : ℕ} → v ≡ 0 → v ≡ 1 → ⊥
+    dead p q = omega arith
+
+pub exploring-moved :
+    {j : Job} {cs : List Four} {m : ℕ} {codes : List ℕ} {at : ℕ} {ms held tr : List ℕ} {top : ℕ} {ns ow held1 ur ls ow2 held2 vr : List ℕ} {end last k : ℕ} →
+    ls ≡ ns → ow2 ≡ ow → held2 ≡ held1 → vr ≡ ur → last ≡ end → Exploring j cs m codes at ms held tr top ns ow held1 ur end k → Exploring j cs m codes at ms held tr top ls ow2 held2 vr last k
+exploring-moved a b c d e s = rw a (rw b (rw c (rw d (rw e s))))

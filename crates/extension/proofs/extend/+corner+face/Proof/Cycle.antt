@@ -1,0 +1,80 @@
+-- The cycle of `extension::extend::face` and `extension::extend::corner`: what falls at each call, the loop's invariant, and the places that the proofs speak of. Assumes nothing.
+use Prim.Native.Nat.{ℕ, _+_, _-_, _*_, _≤_, _<_}
+use borrow.Fn.Kinds.{In}
+use borrow.Fn.PlainCycle.{Measures, is, falls, and}
+use Rattle.extension.proofs.extend.corner.Reads as corner
+use Rattle.extension.proofs.extend.corner.Kinds as corner-kinds
+use Rattle.extension.proofs.extend.+corner+face.Lts-corner as corner-lts
+use Rattle.extension.proofs.extend.face.Reads as face
+use Rattle.extension.proofs.extend.face.Kinds as face-kinds
+use Rattle.extension.proofs.extend.+corner+face.Lts-face as face-lts
+use Rattle.shaving.proofs.shave.discard.Reads as discard-reads
+use Rattle.extension.proofs.extend.more.Reads as more-reads
+use Rattle.extension.proofs.extend.owns.Reads as owns-reads
+use Rattle.shaving.proofs.shave.shave.Reads as shave-reads
+use Rattle.trail.proofs.marks.undo.Reads as undo-reads
+use Rattle.trail.proofs.marks.unset.Reads as unset-reads
+use Rattle.settling.proofs.place.place.Reads as place-reads
+use Rattle.settling.proofs.settle.settle.Reads as settle-reads
+use Rattle.laws.specs.Laws.{fours-in}
+use Rattle.laws.specs.Lists.{job-lists}
+use Rattle.laws.specs.Check.{job}
+use Rattle.fillings.specs.Marks.{live}
+use Rattle.extension.proofs.Exploring.OwnersLoop.{Exploring}
+
+abbrev pub μ-corner : Measures 17 corner-kinds.ps ℕ
+μ-corner κs a = live (a .1 .1 .1 .1 .1 .1 .1 .1 .1 .0) (a .1 .1 .1 .1 .1 .1 .1 .1 .1 .1 .1 .1 .1 .1 .1 .1 .0 .now) * 2
+
+abbrev pub μ-face : Measures 17 face-kinds.ps ℕ
+μ-face κs a = live (a .1 .1 .1 .1 .1 .1 .1 .1 .1 .0) (a .1 .1 .1 .1 .1 .1 .1 .1 .1 .1 .1 .1 .1 .1 .1 .1 .0 .now) * 2 + 1
+
+abbrev pub corner-at : ℕ → In 17 corner-kinds.ps
+corner-at t = and 17 corner-kinds.ps (is 17 corner-kinds.ps μ-corner t) corner.Pre
+
+abbrev pub corner-below : ℕ → In 17 corner-kinds.ps
+corner-below t = and 17 corner-kinds.ps (falls 17 corner-kinds.ps _<_ μ-corner t) corner.Pre
+
+abbrev pub face-at : ℕ → In 17 face-kinds.ps
+face-at t = and 17 face-kinds.ps (is 17 face-kinds.ps μ-face t) face.Pre
+
+abbrev pub face-below : ℕ → In 17 face-kinds.ps
+face-below t = and 17 face-kinds.ps (falls 17 face-kinds.ps _<_ μ-face t) face.Pre
+
+abbrev pub corner-claims : ℕ → corner-lts.Claims
+corner-claims t = (place-reads.Asked, place-reads.Learnt, face-below t, face.Post, undo-reads.Asked, undo-reads.Learnt, unset-reads.Asked, unset-reads.Learnt)
+
+abbrev pub face-claims : ℕ → face-lts.Claims
+face-claims t =
+    (settle-reads.Asked, settle-reads.Learnt, owns-reads.Asked, owns-reads.Learnt, corner-below t, corner.Post, discard-reads.Asked, discard-reads.Learnt, more-reads.Asked, more-reads.Learnt, shave-reads.Asked, shave-reads.Learnt)
+
+-- ---- the places of corner before: the start, the calls
+abbrev pub corner-start : (t : ℕ) → corner-lts.After-place (corner-claims t) (corner-at t) corner.Post → corner-lts.Start (corner-claims t) (corner-at t) corner.Post
+corner-start t p = p .before .before .before .before .before .before .before .before .before .before .before .before .before .before .before .before .before .before .before .before
+
+abbrev pub placing : (t : ℕ) → corner-lts.After-face (corner-claims t) (corner-at t) corner.Post → corner-lts.After-place (corner-claims t) (corner-at t) corner.Post
+placing t f = f .before .before .before .before .before .before .before .before .before .before .before .before .before
+
+abbrev pub exploring : (t : ℕ) → corner-lts.After-undo (corner-claims t) (corner-at t) corner.Post → corner-lts.After-face (corner-claims t) (corner-at t) corner.Post
+exploring t u = u .before .before .before .before .before .before .before .before .before .before .before .before .before
+
+abbrev pub undoing : (t : ℕ) → corner-lts.After-unset (corner-claims t) (corner-at t) corner.Post → corner-lts.After-undo (corner-claims t) (corner-at t) corner.Post
+undoing t v = v .before .before .before .before .before .before .before .before
+
+-- ---- the loop of face
+abbrev pub face-Inv-loop : face-lts.InvT-loop
+face-Inv-loop points triangles kept table rows fours codes boundary bound m corners piercing head next watch from marks₀ owners₀ held₀ trail₀ top kind at end₀ nodes₀ shaved₀ k₀ marks owners held trail end nodes shaved k =
+    (k ≤ m) × Exploring (job (job-lists points triangles kept table)) (fours-in m fours) m codes at marks₀ held₀ trail₀ end₀ marks owners held trail end k
+
+abbrev pub face-μ-loop : face-lts.MeasureT-loop
+face-μ-loop points triangles kept table rows fours codes boundary bound m corners piercing head next watch from marks₀ owners₀ held₀ trail₀ top kind at end₀ nodes₀ shaved₀ k₀ marks owners held trail end nodes shaved k =
+    m - k
+
+-- the places before: the start, the settling, from the loop
+abbrev pub face-start : (t : ℕ) → face-lts.After-settle (face-claims t) (face-at t) face.Post face-Inv-loop face-μ-loop → face-lts.Start (face-claims t) (face-at t) face.Post face-Inv-loop face-μ-loop
+face-start t z = z .before .before .before .before .before .before .before .before .before .before .before .before .before .before .before .before .before .before .before .before
+
+abbrev pub settling : (t : ℕ) → face-lts.At-loop (face-claims t) (face-at t) face.Post face-Inv-loop face-μ-loop → face-lts.After-settle (face-claims t) (face-at t) face.Post face-Inv-loop face-μ-loop
+settling t l = l .before .before .before .before .before .before .before .before .before
+
+abbrev pub looping : (t : ℕ) → face-lts.After-corner (face-claims t) (face-at t) face.Post face-Inv-loop face-μ-loop → face-lts.At-loop (face-claims t) (face-at t) face.Post face-Inv-loop face-μ-loop
+looping t r = r .before .before .before .before .before .before .before .before .before .before

@@ -1,0 +1,2 @@
+-- Drops that lose no filling.
+pub mod Falling

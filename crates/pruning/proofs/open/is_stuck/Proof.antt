@@ -1,0 +1,88 @@
+-- `pruning::open::is_stuck` meets its contract. Assumes nothing.
+use mathlib.Core.Path.{_≡_, refl, sym, subst, _∙_}
+use mathlib.Core.Bool.{true≢false}
+use Prim.Native.Nat.{ℕ, _+_, _*_, _-_, _≤_}
+use native.Mathlib.Omega.{arith}
+use borrow.Author.Tests.{not-true}
+use lib.ListN.{getD}
+use Rattle.pruning.proofs.open.is_stuck.Statement.{statement}
+use Rattle.pruning.proofs.open.is_stuck.Tie as tie
+
+abbrev Inv-loop : tie.InvT-loop
+Inv-loop codes bound held owners k i₀ i = i ≤ 4
+
+abbrev μ-loop : tie.MeasureT-loop
+μ-loop codes bound held owners k i₀ i = 4 - i
+
+loop-holds : tie.Need-loop-holds Inv-loop μ-loop
+loop-holds c = omega arith
+
+mul-d : tie.Need-mul-d Inv-loop μ-loop
+mul-d c = omega arith
+
+add-d : tie.Need-add-d Inv-loop μ-loop
+add-d c = omega arith
+
+mul-d-2 : tie.Need-mul-d-2 Inv-loop μ-loop
+mul-d-2 c = omega arith
+
+shared-slice-read-d : tie.Need-shared-slice-read-d Inv-loop μ-loop
+shared-slice-read-d c = omega (arith, c .before .before .before .before .before .before .before .pre .1 .long)
+
+cast-d : tie.Need-cast-d Inv-loop μ-loop
+cast-d c = omega (arith, c .before .before .before .before .before .before .before .pre .1 .each (c .before .before .before .before .before .before .before .args .k * 4 + c .before .before .loop .i) (omega arith))
+
+flip-requires : tie.Need-flip-requires Inv-loop μ-loop
+flip-requires c κs = c .before .before .before .before .before .before .before .pre .1 .each (c .before .before .before .before .before .before .before .args .k * 4 + c .before .before .loop .i) (omega arith)
+
+mul-x : tie.Need-mul-x Inv-loop μ-loop
+mul-x c = omega (arith, c .flip .ensures .1)
+
+shared-slice-read-x : tie.Need-shared-slice-read-x Inv-loop μ-loop
+shared-slice-read-x c = omega (arith, c .before .flip .ensures .1)
+
+is-open-requires : tie.Need-is-open-requires Inv-loop μ-loop
+is-open-requires c κs = (c .before .before .before .before .before .before .before .before .before .before .pre .1 .each (c .before .before .before .before .before .before .before .before .before .before .args .k * 4 + c .before .before .before .before .before .loop .i) (omega arith), c .before .before .before .before .before .before .before .before .before .before .pre .3, c .before .before .before .before .before .before .before .before .before .before .pre .2)
+
+returns : tie.Need-returns Inv-loop μ-loop
+returns c = λ e.
+    record {
+      face = getD (c .before .before .before .before .before .before .before .before .before .before .before .before .args .codes .now) (c .before .before .before .before .before .before .before .before .before .before .before .before .args .k * 4 + c .before .before .before .before .before .before .before .loop .i) 0;
+      owns = record { which = c .before .before .before .before .before .before .before .loop .i; below = omega arith; is = refl };
+      shut = sym (c .before .is-open .ensures) ∙ not-true (c .before .is-open .result) (c .if2 .taken);
+      lone = subst (λ (d : ℕ). getD (c .before .before .before .before .before .before .before .before .before .before .before .before .args .owners .now) d 0 ≡ 0) (c .before .before .before .before .flip .ensures .0) (c .before .before .if1 .taken);
+    }
+
+add-i : tie.Need-add-i Inv-loop μ-loop
+add-i c = omega arith
+
+loop-less : tie.Need-loop-less Inv-loop μ-loop
+loop-less c = omega arith
+
+loop-again : tie.Need-loop-again Inv-loop μ-loop
+loop-again c = omega arith
+
+returns-2 : tie.Need-returns-2 Inv-loop μ-loop
+returns-2 c = λ e. absurd (true≢false (sym e))
+
+pub is-stuck-spec : {M : Type 1} → statement M
+is-stuck-spec =
+    tie.close
+    (tie.spec
+    Inv-loop
+    μ-loop
+    loop-holds
+    mul-d
+    add-d
+    mul-d-2
+    shared-slice-read-d
+    cast-d
+    flip-requires
+    mul-x
+    shared-slice-read-x
+    is-open-requires
+    returns
+    add-i
+    loop-less
+    loop-again
+    returns-2)

@@ -1,0 +1,57 @@
+// Open faces, by the counts of set owners and the flags of the boundary.
+ghost use mathlib.Core.Path.{_≡_};
+ghost use mathlib.Core.Bool.{true};
+ghost use Prim.Native.Nat.{_+_, _*_, _<_};
+ghost use lib.ListN.{length};
+ghost use Rattle.laws.specs.inner.FaceCodes.{flip-code};
+ghost use Rattle.fillings.specs.Codes.{open-code};
+ghost use Rattle.fillings.specs.Steps.{Stuck};
+ghost use Rattle.fillings.specs.Tables.{All-below};
+
+// The code of the reverse.
+pub fn flip(c: usize) -> usize
+    requires { ⌜ c < 4096 ⌝ }
+    ensures { λ r. ⌜ (r ≡ flip-code c) × (r < 4096) ⌝ }
+{
+    c / 256 * 256 + c % 16 * 16 + c / 16 % 16
+}
+
+// Whether the face with the code c is open: still to be owned.
+pub fn is_open(held: &[u16], bound: &[u8], c: usize) -> bool
+    requires { ⌜ (c < 4096) × (length (now held) ≡ 4096) × (length (now bound) ≡ 4096) ⌝ }
+    ensures { λ r. ⌜ r ≡ open-code (now (held .entry)) (now (bound .entry)) c ⌝ }
+{
+    let a = held[c];
+    if a > 0 {
+        return false;
+    }
+    let b = bound[c];
+    if b > 0 {
+        return true;
+    }
+    let d = flip(c);
+    let e = held[d];
+    if e > 0 {
+        let f = bound[d];
+        return f == 0;
+    }
+    false
+}
+
+// Whether the candidate k has a face that is not open and whose reverse no alive candidate owns.
+pub fn is_stuck(codes: &[u16], bound: &[u8], held: &[u16], owners: &[u16], k: usize) -> bool
+    requires { ⌜ (k < 1820) × All-below 4096 (k * 4 + 4) (now codes) × (length (now bound) ≡ 4096) × (length (now held) ≡ 4096) × (length (now owners) ≡ 4096) ⌝ }
+    ensures { λ r. ⌜ (r ≡ true → Stuck (now (codes .entry)) (now (bound .entry)) (now (held .entry)) (now (owners .entry)) k) ⌝ }
+{
+    for i in 0..4 {
+        let d = codes[k * 4 + i] as usize;
+        let e = flip(d);
+        let x = owners[e];
+        if x == 0 {
+            if !is_open(held, bound, d) {
+                return true;
+            }
+        }
+    }
+    false
+}
