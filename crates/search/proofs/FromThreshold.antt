@@ -12,14 +12,14 @@ use Rattle.laws.specs.Lists.{Lists, job-lists}
 use Rattle.laws.specs.Check.{job, job-refusal}
 use Rattle.laws.specs.Promise.{Best-there}
 use Rattle.laws.proofs.Choice.Promises.{best-there}
-use Rattle.search.specs.inner.Marks.{marked}
-use Rattle.search.specs.inner.Tables.{Attempted, Highest}
+use Rattle.fillings.specs.Marks.{marked}
+use Rattle.fillings.specs.Tables.{Attempted, Highest}
 use Rattle.search.specs.Entry.{says, Searched}
 use Rattle.search.specs.inner.Threshold.{Under, Searched-from}
 use Rattle.search.specs.declared.search.Found.{Found}
-use Rattle.search.proofs.Worst.{worst-at-most}
+use Rattle.fillings.proofs.Parts.Worst.{worst-at-most}
 use Rattle.search.proofs.Searched.{searched-none}
-use Rattle.search.proofs.Thresholds.{whole-above}
+use Rattle.thresholds.proofs.Trying.Thresholds.{whole-above}
 
 pub under-all : (j : Job) → Under j 1000001
 under-all j = record { each = λ fs l. let h = worst-at-most j fs in omega arith }

@@ -1,198 +1,58 @@
--- Tables with the numbers of one more candidate written: what is read from them. Assumes nothing.
-use mathlib.Core.Path.{_≡_, refl, sym, ap, _∙_}
-use mathlib.Core.Logic.{_⊎_, inl, inr}
-use mathlib.Core.List.{List, [], _∷_, _++_}
-use Prim.Native.Nat.{ℕ, zero, suc, _+_, _*_, _-_, _≤_, _<_}
-use native.Mathlib.Numerals.{add-one}
+-- The best filling, written. Assumes nothing.
+use mathlib.Core.Path.{_≡_, refl, sym, subst, ap, _∙_}
+use mathlib.Core.Bool.{Bool, true, false, cond}
+use mathlib.Core.List.{List, [], _∷_}
+use Prim.Native.Nat.{ℕ, suc, _≤_, _<_}
+use native.Mathlib.Nat.{le-refl}
 use native.Mathlib.Omega.{arith}
-use native.Mathlib.Decide.{decLt}
-use lib.ListN.{length, getD, set, drop, length-set, length-append, List·getD-append}
-use lib.Seq.{getD-set-same, getD-set-other, getD-drop, getD-at}
-use Rattle.geometry.specs.Space.{V3, four, turned}
+use lib.Dec.{eqb}
+use lib.ListN.{length, getD}
+use lib.IntN.{ℤ}
 use Rattle.geometry.specs.declared.tetrahedron.Four.{Four}
-use Rattle.laws.specs.Laws.{Job, entry, quality, tri, faces, fours-in}
-use Rattle.laws.specs.inner.FaceCodes.{face-code}
-use Rattle.search.specs.inner.Marks.{nth}
-use Rattle.search.specs.inner.Codes.{Face-table}
-use Rattle.search.specs.inner.Tables.{Qualities, All-below}
-use Rattle.search.specs.inner.Filing.{put-four, put-faces, copied}
+use Rattle.laws.specs.Laws.{entry, quality, fours-in, lawful, worst, Best, bytes}
+use Rattle.laws.specs.Lists.{job-lists}
+use Rattle.laws.specs.Check.{job, job-refusal}
+use Rattle.laws.specs.inner.Members.{In}
+use Rattle.laws.proofs.Basics.Tests.{contradiction}
+use Rattle.laws.proofs.Order.Bytes.{fours-in-length}
+use Rattle.fillings.specs.Marks.{Covers, marked, marked-from, Reduced, Extended}
+use Rattle.fillings.specs.Tables.{Filed, Whole, Alive-from, Between, Attempted, Highest, Least-set}
+use Rattle.search.specs.Entry.{in-front, says, Searched}
+use Rattle.fillings.proofs.Parts.Boundary.{boundary}
+use Rattle.fillings.proofs.Choice.Bisection.{Bounds, bounds-gap}
+use Rattle.fillings.proofs.ByNumber.Numbers.{member-number}
+use Rattle.fillings.proofs.ByNumber.Compact.{covers-alive}
+use Rattle.search.proofs.Searched.{searched-best}
+use Rattle.thresholds.proofs.Trying.Thresholds.{alive-started, boundary-some, found-from, least-worst, none-from, quality-small, whole-above}
 
--- ---- four numbers written
-module _ (k a b c d : ℕ) (xs : List ℕ) where
-  pub put-length : length (put-four k a b c d xs) ≡ length xs
-  put-length = simp length-set
-
-  pub put-before : (i : ℕ) → i < k * 4 → getD (put-four k a b c d xs) i 0 ≡ getD xs i 0
-  put-before i h =
-      getD-set-other (set (set (set xs (k * 4) a) (k * 4 + 1) b) (k * 4 + 2) c) (k * 4 + 3) i d 0 (λ e. omega arith)
-      ∙ getD-set-other (set (set xs (k * 4) a) (k * 4 + 1) b) (k * 4 + 2) i c 0 (λ e. omega arith)
-      ∙ getD-set-other (set xs (k * 4) a) (k * 4 + 1) i b 0 (λ e. omega arith)
-      ∙ getD-set-other xs (k * 4) i a 0 (λ e. omega arith)
-
-  module _ (long : k * 4 + 4 ≤ length xs) where
-    pub put-a : getD (put-four k a b c d xs) (k * 4) 0 ≡ a
-    put-a =
-        getD-set-other (set (set (set xs (k * 4) a) (k * 4 + 1) b) (k * 4 + 2) c) (k * 4 + 3) (k * 4) d 0 (λ e. omega arith)
-        ∙ getD-set-other (set (set xs (k * 4) a) (k * 4 + 1) b) (k * 4 + 2) (k * 4) c 0 (λ e. omega arith)
-        ∙ getD-set-other (set xs (k * 4) a) (k * 4 + 1) (k * 4) b 0 (λ e. omega arith)
-        ∙ getD-set-same xs (k * 4) a 0 (omega arith)
-
-    pub put-b : getD (put-four k a b c d xs) (k * 4 + 1) 0 ≡ b
-    put-b =
-        getD-set-other (set (set (set xs (k * 4) a) (k * 4 + 1) b) (k * 4 + 2) c) (k * 4 + 3) (k * 4 + 1) d 0 (λ e. omega arith)
-        ∙ getD-set-other (set (set xs (k * 4) a) (k * 4 + 1) b) (k * 4 + 2) (k * 4 + 1) c 0 (λ e. omega arith)
-        ∙ getD-set-same (set xs (k * 4) a) (k * 4 + 1) b 0 (simp length-set (omega arith))
-
-    pub put-c : getD (put-four k a b c d xs) (k * 4 + 2) 0 ≡ c
-    put-c =
-        getD-set-other (set (set (set xs (k * 4) a) (k * 4 + 1) b) (k * 4 + 2) c) (k * 4 + 3) (k * 4 + 2) d 0 (λ e. omega arith)
-        ∙ getD-set-same (set (set xs (k * 4) a) (k * 4 + 1) b) (k * 4 + 2) c 0 (simp length-set (omega arith))
-
-    pub put-d : getD (put-four k a b c d xs) (k * 4 + 3) 0 ≡ d
-    put-d = getD-set-same (set (set (set xs (k * 4) a) (k * 4 + 1) b) (k * 4 + 2) c) (k * 4 + 3) d 0 (simp length-set (omega arith))
-
--- one of four
-pub one-of-four : (P : ℕ → Type 0) → P 0 → P 1 → P 2 → P 3 → (i : ℕ) → i < 4 → P i
-one-of-four P p q r s zero h = p
-one-of-four P p q r s (suc zero) h = q
-one-of-four P p q r s (suc (suc zero)) h = r
-one-of-four P p q r s (suc (suc (suc zero))) h = s
-one-of-four P p q r s (suc (suc (suc (suc i)))) h = absurd (omega arith)
-
--- ---- the fours in bytes: by their first bytes alone, and one more at the end
-head-bytes : {a b c d e f g h : ℕ} {x y : List Four} → a ≡ e → b ≡ f → c ≡ g → d ≡ h → x ≡ y → _≡_ {A = List Four} (four a b c d ∷ x) (four e f g h ∷ y)
-head-bytes p q r s t = cc
-
-pub fours-in-same : (n : ℕ) (xs ys : List ℕ) → ((i : ℕ) → i < n * 4 → getD xs i 0 ≡ getD ys i 0) → fours-in n xs ≡ fours-in n ys
-unfolding fours-in
-fours-in-same zero xs ys h = refl
-fours-in-same (suc n) xs ys h =
-    head-bytes (h 0 (omega arith)) (h 1 (omega arith)) (h 2 (omega arith)) (h 3 (omega arith))
-    (fours-in-same n (drop 4 xs) (drop 4 ys) (λ i l. getD-drop 4 xs i 0 ∙ h (4 + i) (omega arith) ∙ sym (getD-drop 4 ys i 0)))
-
--- the four of the bytes of the number k
-abbrev pub four-of : (k : ℕ) → List ℕ → Four
-four-of k xs = four (getD xs (k * 4) 0) (getD xs (k * 4 + 1) 0) (getD xs (k * 4 + 2) 0) (getD xs (k * 4 + 3) 0)
-
-four-of-equal : {a b c d e f g h : ℕ} → a ≡ e → b ≡ f → c ≡ g → d ≡ h → four a b c d ≡ four e f g h
-four-of-equal p q r s = cc
-
-four-of-drop : (k : ℕ) (xs : List ℕ) → four-of k (drop 4 xs) ≡ four-of (suc k) xs
-four-of-drop k xs = four-of-equal (getD-drop 4 xs (k * 4) 0 ∙ ap (λ (n : ℕ). getD xs n 0) (omega arith)) (at 1) (at 2) (at 3)
+marked-from-few : (v k : ℕ) (cs : List Four) (ms : List ℕ) → length (marked-from v k cs ms) ≤ length cs
+unfolding marked-from
+marked-from-few v k [] ms = omega arith
+marked-from-few v k (c ∷ cs) ms = go (eqb (getD ms k 0) v) (marked-from-few v (suc k) cs ms)
   where
-    at : (i : ℕ) → getD (drop 4 xs) (k * 4 + i) 0 ≡ getD xs (suc k * 4 + i) 0
-    at i = getD-drop 4 xs (k * 4 + i) 0 ∙ ap (λ (n : ℕ). getD xs n 0) (omega arith)
+    go : (b : Bool) → length (marked-from v (suc k) cs ms) ≤ length cs → length (cond b (c ∷ marked-from v (suc k) cs ms) (marked-from v (suc k) cs ms)) ≤ suc (length cs)
+    go true l = omega arith
+    go false l = omega arith
 
-fours-in-last : (n : ℕ) (xs : List ℕ) → fours-in (suc n) xs ≡ fours-in n xs ++ (four-of n xs ∷ [])
-unfolding fours-in
-fours-in-last zero xs = refl
-fours-in-last (suc n) xs =
-    ap (λ (l : List Four). four-of 0 xs ∷ l) (fours-in-last n (drop 4 xs) ∙ ap (λ (f : Four). fours-in n (drop 4 xs) ++ (f ∷ [])) (four-of-drop n xs))
+pub marked-few : (v m : ℕ) (fours ms : List ℕ) → length (marked v (fours-in m fours) ms) ≤ m
+unfolding marked
+marked-few v m fours ms = subst (λ (n : ℕ). length (marked-from v 0 (fours-in m fours) ms) ≤ n) (fours-in-length m fours) (marked-from-few v 0 (fours-in m fours) ms)
 
-pub fours-in-more : (n : ℕ) (xs : List ℕ) → fours-in (n + 1) xs ≡ fours-in n xs ++ (four-of n xs ∷ [])
-fours-in-more n xs = ap (λ (m : ℕ). fours-in m xs) (add-one n) ∙ fours-in-last n xs
+pub best-written :
+    {ps : List ℤ} {ts es : List ℕ} {qs : List ℤ} {fours codes quals : List ℕ} {m w n : ℕ} {ms bs cs : List ℕ} (ns : List ℕ) → Highest ps ts es qs fours codes quals m w (suc w) ms →
+    Best (job (job-lists ps ts es qs)) (marked 2 (fours-in m fours) ns) → n ≡ length (marked 2 (fours-in m fours) ns) → cs ≡ in-front (bytes (marked 2 (fours-in m fours) ns)) bs →
+    Searched (job (job-lists ps ts es qs)) (record { number = 0; count = n; worst = w }) bs cs
+unfolding says
+best-written {ps} {ts} {es} {qs} {fours} {m = m} {w = w} {ms = ms} ns h b e d =
+    let S = marked 2 (fours-in m fours) ns in
+    let u = h .reached S (b .keeps) in
+    let l = b .least (marked 2 (fours-in m fours) ms) (h .keeps) .0 in
+    let g = h .worth in
+    let k : w ≡ worst (job (job-lists ps ts es qs)) S = omega arith in searched-best b (refl, e, k) d
 
-pub fours-in-put : (k a b c d : ℕ) (xs : List ℕ) → k * 4 + 4 ≤ length xs → fours-in (k + 1) (put-four k a b c d xs) ≡ fours-in k xs ++ (four a b c d ∷ [])
-fours-in-put k a b c d xs long =
-    fours-in-more k (put-four k a b c d xs)
-    ∙ ap (λ (l : List Four). l ++ (four-of k (put-four k a b c d xs) ∷ [])) (fours-in-same k (put-four k a b c d xs) xs (put-before k a b c d xs))
-    ∙ ap (λ (f : Four). fours-in k xs ++ (f ∷ [])) (four-of-equal (put-a k a b c d xs long) (put-b k a b c d xs long) (put-c k a b c d xs long) (put-d k a b c d xs long))
-
--- ---- a list with one more four
-pub nth-old : (cs : List Four) (f : Four) (k : ℕ) → k < length cs → nth (cs ++ (f ∷ [])) k ≡ nth cs k
-nth-old cs f k h = List·getD-append cs (f ∷ []) (record { a = 0; b = 0; c = 0; d = 0 }) k h
-
-pub nth-last : (cs : List Four) (f : Four) (k : ℕ) → length cs ≡ k → nth (cs ++ (f ∷ [])) k ≡ f
-nth-last cs f k e = getD-at cs f [] (record { a = 0; b = 0; c = 0; d = 0 }) k e
-
-pub length-more : (cs : List Four) (f : Four) → length (cs ++ (f ∷ [])) ≡ length cs + 1
-length-more cs f = length-append cs (f ∷ [])
-
--- old or last
-below-last : (i k : ℕ) → i < k + 1 → (i < k) ⊎ (i ≡ k)
-below-last i k h = go (decLt i k)
-  where
-    go : Dec (i < k) → (i < k) ⊎ (i ≡ k)
-    go (yes l) = inl l
-    go (no l) = inr (omega arith)
-
--- ---- face numbers
-module _ {ps : List V3} {cs : List Four} {codes : List ℕ} (f : Four) (k a b c d : ℕ) (count : length cs ≡ k) (long : k * 4 + 4 ≤ length codes) (t : Face-table ps cs codes) where
-  abbrev face-at : Four → ℕ → ℕ
-  face-at g i = face-code (getD (faces (turned ps g)) i (record { a = 0; b = 0; c = 0 }))
-
-  pub faces-more : a ≡ face-at f 0 → b ≡ face-at f 1 → c ≡ face-at f 2 → d ≡ face-at f 3 → Face-table ps (cs ++ (f ∷ [])) (put-four k a b c d codes)
-  faces-more p q r s =
-      record {
-        long = omega (arith, put-length k a b c d codes, length-more cs f);
-        each = λ i n l m. at i n m (below-last i k (omega (arith, length-more cs f)));
-      }
-    where
-      first : getD (put-four k a b c d codes) (k * 4 + 0) 0 ≡ face-at f 0
-      first = let e : k * 4 + 0 ≡ k * 4 = omega arith in ap (λ (n : ℕ). getD (put-four k a b c d codes) n 0) e ∙ put-a k a b c d codes long ∙ p
-
-      new : (n : ℕ) → n < 4 → getD (put-four k a b c d codes) (k * 4 + n) 0 ≡ face-at f n
-      new =
-          one-of-four (λ n. getD (put-four k a b c d codes) (k * 4 + n) 0 ≡ face-at f n) first (put-b k a b c d codes long ∙ q) (put-c k a b c d codes long ∙ r)
-          (put-d k a b c d codes long ∙ s)
-
-      at : (i n : ℕ) → n < 4 → (i < k) ⊎ (i ≡ k) → getD (put-four k a b c d codes) (i * 4 + n) 0 ≡ face-at (nth (cs ++ (f ∷ [])) i) n
-      at i n m (inl l) =
-          put-before k a b c d codes (i * 4 + n) (omega arith) ∙ t .each i n (omega arith) m ∙ ap (λ (g : Four). face-at g n) (sym (nth-old cs f i (omega arith)))
-      at i n m (inr e) =
-          ap (λ (x : ℕ). getD (put-four k a b c d codes) (x * 4 + n) 0) e ∙ new n m
-          ∙ ap (λ (g : Four). face-at g n) (sym (nth-last cs f k count) ∙ ap (nth (cs ++ (f ∷ []))) (sym e))
-
-pub faces-put :
-    {ps : List V3} {cs : List Four} {codes : List ℕ} (f : Four) (k : ℕ) → length cs ≡ k → k * 4 + 4 ≤ length codes → Face-table ps cs codes →
-    Face-table ps (cs ++ (f ∷ [])) (put-faces k (turned ps f) codes)
-unfolding faces
-faces-put {ps} {cs} {codes} f k e l t =
-    let g = turned ps f in
-    faces-more f k (face-code (tri (g .a) (g .c) (g .b))) (face-code (tri (g .a) (g .b) (g .d))) (face-code (tri (g .a) (g .d) (g .c))) (face-code (tri (g .b) (g .c) (g .d))) e l t refl
-    refl refl refl
-
--- those of the candidate i of another table
-pub faces-copied :
-    {ps : List V3} {bs cs : List Four} {from codes : List ℕ} (i k : ℕ) → i < length bs → length cs ≡ k → k * 4 + 4 ≤ length codes → Face-table ps bs from → Face-table ps cs codes →
-    Face-table ps (cs ++ (nth bs i ∷ [])) (copied i k from codes)
-faces-copied {ps} {bs} {cs} {from} {codes} i k h e l s t =
-    faces-more (nth bs i) k (getD from (i * 4) 0) (getD from (i * 4 + 1) 0) (getD from (i * 4 + 2) 0) (getD from (i * 4 + 3) 0) e l t first (s .each i 1 h (omega arith)) (s .each i 2 h (omega arith))
-    (s .each i 3 h (omega arith))
-  where
-    first : getD from (i * 4) 0 ≡ face-code (getD (faces (turned ps (nth bs i))) 0 (record { a = 0; b = 0; c = 0 }))
-    first = let z : i * 4 ≡ i * 4 + 0 = omega arith in ap (λ (n : ℕ). getD from n 0) z ∙ s .each i 0 h (omega arith)
-
--- ---- qualities
-pub qualities-put :
-    {j : Job} {cs : List Four} {quals : List ℕ} (f : Four) (k v : ℕ) → length cs ≡ k → k < length quals → v ≡ quality (entry j f) → Qualities j cs quals →
-    Qualities j (cs ++ (f ∷ [])) (set quals k v)
-qualities-put {j} {cs} {quals} f k v count long p t =
-    record {
-      long = omega (arith, length-set quals k v, length-more cs f);
-      each = λ i l. at i (below-last i k (omega (arith, length-more cs f)));
-    }
-  where
-    at : (i : ℕ) → (i < k) ⊎ (i ≡ k) → getD (set quals k v) i 0 ≡ quality (entry j (nth (cs ++ (f ∷ [])) i))
-    at i (inl l) = getD-set-other quals k i v 0 (λ e. omega arith) ∙ t .each i (omega arith) ∙ ap (λ (g : Four). quality (entry j g)) (sym (nth-old cs f i (omega arith)))
-    at i (inr e) =
-        ap (λ (x : ℕ). getD (set quals k v) x 0) e ∙ getD-set-same quals k v 0 long ∙ p
-        ∙ ap (λ (g : Four). quality (entry j g)) (sym (nth-last cs f k count) ∙ ap (nth (cs ++ (f ∷ []))) (sym e))
-
--- ---- numbers below a bound
-pub below-put :
-    {m : ℕ} {xs : List ℕ} (k a b c d : ℕ) → a < m → b < m → c < m → d < m → k * 4 + 4 ≤ length xs → All-below m (k * 4) xs → All-below m ((k + 1) * 4) (put-four k a b c d xs)
-below-put {m} {xs} k a b c d p q r s long t =
-    record { long = omega (arith, put-length k a b c d xs); each = λ i l. at i l (decLt i (k * 4)) }
-  where
-    new : (n : ℕ) → n < 4 → getD (put-four k a b c d xs) (k * 4 + n) 0 < m
-    new =
-        one-of-four (λ n. getD (put-four k a b c d xs) (k * 4 + n) 0 < m) first (omega (arith, put-b k a b c d xs long)) (omega (arith, put-c k a b c d xs long))
-        (omega (arith, put-d k a b c d xs long))
-      where
-        first : getD (put-four k a b c d xs) (k * 4 + 0) 0 < m
-        first = let e : k * 4 + 0 ≡ k * 4 = omega arith in rw e (omega (arith, put-a k a b c d xs long))
-
-    at : (i : ℕ) → i < (k + 1) * 4 → Dec (i < k * 4) → getD (put-four k a b c d xs) i 0 < m
-    at i l (yes h) = omega (arith, put-before k a b c d xs i h, t .each i h)
-    at i l (no h) = let e : i ≡ k * 4 + (i - k * 4) = omega arith in rw e (new (i - k * 4) (omega arith))
+-- the first list, written
+pub first-written :
+    {ps : List ℤ} {ts es : List ℕ} {qs : List ℤ} {fours codes quals : List ℕ} {m w v n : ℕ} {ms bs cs : List ℕ} (ns : List ℕ) → Highest ps ts es qs fours codes quals m w (suc w) ms → v ≡ w →
+    Best (job (job-lists ps ts es qs)) (marked 2 (fours-in m fours) ns) → n ≡ length (marked 2 (fours-in m fours) ns) → cs ≡ in-front (bytes (marked 2 (fours-in m fours) ns)) bs →
+    Searched (job (job-lists ps ts es qs)) (record { number = 0; count = n; worst = v }) bs cs
+first-written ns h e b l d = rw e (best-written ns h b l d)

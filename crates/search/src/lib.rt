@@ -1,10 +1,3 @@
-// The search.
-pub mod best;
-pub mod codes;
-pub mod extend;
-pub mod first;
-pub mod marks;
-pub mod pool;
+// The search: the best filling written, and the entry, which alone is for users and has no `requires`.
+// Assumes nothing.
 pub mod search;
-pub mod settle;
-pub mod thin;

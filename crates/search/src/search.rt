@@ -2,25 +2,32 @@
 ghost use mathlib.Core.Path.{_≡_};
 ghost use Prim.Native.Nat.{_*_, _/_, _≤_, _<_};
 ghost use lib.ListN.{length};
+ghost use Rattle.geometry.specs.Space.{points-in};
 ghost use Rattle.laws.specs.Laws.{fours-in, bytes};
 ghost use Rattle.laws.specs.Lists.{job-lists};
 ghost use Rattle.laws.specs.Check.{job, job-refusal};
-ghost use Rattle.search.specs.inner.Marks.{marked};
-ghost use Rattle.search.specs.inner.Codes.{Bound-flags};
-ghost use Rattle.search.specs.inner.Tables.{All-below, Rim, Highest};
+ghost use Rattle.fillings.specs.Marks.{marked};
+ghost use Rattle.fillings.specs.Codes.{Bound-flags};
+ghost use Rattle.fillings.specs.Tables.{All-below, Rim, Whole, Highest};
+ghost use Rattle.signs.specs.Rows.{Rows};
+ghost use Rattle.trail.specs.State.{Coded};
 ghost use Rattle.search.specs.Entry.{in-front, Searched, Search-says};
+ghost use Rattle.settling.specs.Prepared.{Prepared};
 ghost use Rattle.search.specs.inner.Threshold.{Under, Searched-from};
-use crate::best::Attempt;
-use crate::best::climb;
-use crate::best::guess;
-use crate::best::rough;
-use crate::best::try_threshold;
-use crate::codes::named;
-use crate::codes::rim_codes;
-use crate::first::first_list;
-use crate::pool::gather;
-use crate::pool::put_four;
+use candidates::boundary::boundary_codes;
+use candidates::boundary::named;
+use candidates::pairs::chain;
+use candidates::pool::gather;
+use candidates::pool::put_four;
 use checker::check::check_job;
+use first_list::first::first_list;
+use signs::rows::fill_rows;
+use thresholds::best::Attempt;
+use thresholds::best::climb;
+use thresholds::best::prepare;
+use thresholds::best::reduce;
+use thresholds::best::try_threshold;
+use thresholds::threshold::guess;
 
 // What the search answers: 0 and the filling's count and worst quality, or the number of a refusal and zeros.
 #[repr(C)]
@@ -54,21 +61,31 @@ pub fn write_filling(fours: &[u8], m: usize, mark: [u8; 1820], answer: &mut [u8]
 }
 
 // From the first filling found to the best one, written.
-pub fn finish(
+pub(crate) fn finish(
     points: &[i32],
     triangles: &[u8],
     kept: &[u8],
     table: &[i32],
-    rim: &[u16],
-    bound: &[u8],
+    rows: &[u16],
     fours: &[u8],
     codes: &[u16],
+    boundary: &[u16],
+    bound: &[u8],
+    m: usize,
+    corners: &[u16],
+    piercing: &[u16],
+    head: &[u16],
+    next: &[u16],
+    watch: bool,
     quals: &[u32],
     from: Attempt,
     top: u32,
+    owners: &mut [u16],
+    held: &mut [u16],
+    trail: &mut [u16],
     answer: &mut [u8],
 ) -> Found
-    requires { ⌜ (job-refusal (job-lists (now points) (now triangles) (now kept) (now table)) ≡ 0) × Rim (now triangles) (now rim) × Bound-flags (job (job-lists (now points) (now triangles) (now kept) (now table)) .triangles) (now bound) × (length (now bound) ≡ 4096) × Highest (now points) (now triangles) (now kept) (now table) (now fours) (now codes) (now quals) (from .count) (from .worst) top (from .mark) × (7280 ≤ length (now answer)) ⌝ }
+    requires { ⌜ Prepared (now points) (now triangles) (now kept) (now table) (now rows) (now fours) (now codes) (now boundary) (now bound) m (now corners) (now piercing) (now head) (now next) × Highest (now points) (now triangles) (now kept) (now table) (now fours) (now codes) (now quals) m (from .worst) top (from .mark) × (length (now owners) ≡ 4096) × (length (now held) ≡ 4096) × (length (now trail) ≡ 1820) × (7280 ≤ length (now answer)) ⌝ }
     ensures { λ r. ⌜ Searched (job (job-lists (now (points .entry)) (now (triangles .entry)) (now (kept .entry)) (now (table .entry)))) r (now (answer .entry)) (now (answer .exit)) ⌝ }
 {
     let w = climb(
@@ -76,110 +93,143 @@ pub fn finish(
         triangles,
         kept,
         table,
-        rim,
-        bound,
+        rows,
         fours,
         codes,
+        boundary,
+        bound,
+        m,
+        corners,
+        piercing,
+        head,
+        next,
+        watch,
         quals,
         from,
         top,
+        owners,
+        held,
+        trail,
     );
     let f = first_list(
         points,
         triangles,
         kept,
         table,
-        rim,
-        bound,
+        rows,
         fours,
         codes,
+        boundary,
+        bound,
+        m,
+        corners,
+        piercing,
+        head,
+        next,
+        watch,
         quals,
         w,
+        owners,
+        held,
+        trail,
     );
-    let m = w.count;
-    let worst = w.worst;
     let mark = f.mark;
     let count = write_filling(fours, m, mark, answer);
     Found {
         number: 0,
         count: count as u32,
-        worst,
+        worst: f.worst,
     }
 }
 
-// A threshold to begin with, on which nothing rests.
-pub fn opening(
-    points: &[i32],
-    triangles: &[u8],
-    kept: &[u8],
-    table: &[i32],
-    rim: &[u16],
+// A threshold to begin with, from 1 on; nothing rests on it.
+pub(crate) fn opening(
+    codes: &[u16],
+    quals: &[u32],
+    m: usize,
+    boundary: &[u16],
+    n: usize,
     bound: &[u8],
 ) -> u32
-    requires { ⌜ (job-refusal (job-lists (now points) (now triangles) (now kept) (now table)) ≡ 0) × All-below 4096 (length (now triangles) / 3) (now rim) × (length (now bound) ≡ 4096) ⌝ }
-    ensures { λ r. ⌜ r ≤ 1000000 ⌝ }
+    requires { ⌜ Coded m (now codes) × (m ≤ length (now quals)) × All-below 4096 n (now boundary) × (length (now bound) ≡ 4096) ⌝ }
+    ensures { λ r. ⌜ (0 < r) × (r ≤ 1000000) ⌝ }
 {
-    let mut codes = [0u16; 7280];
-    let mut quals = [0u32; 1820];
-    let k = rough(
-        points,
-        triangles,
-        kept,
-        table,
+    let mut head = [0u16; 4096];
+    let mut next = [0u16; 7280];
+    chain(codes, m, &mut head, &mut next);
+    let mut marks = [0u8; 1820];
+    let mut owners = [0u16; 4096];
+    let mut held = [0u16; 4096];
+    let mut trail = [0u16; 1820];
+    let q = guess(
+        codes,
+        quals,
+        m,
+        boundary,
+        n,
         bound,
-        &mut codes,
-        &mut quals,
+        &head,
+        &next,
+        &mut marks,
+        &mut owners,
+        &mut held,
+        &mut trail,
     );
-    guess(&codes, &quals, k, rim, triangles.len() / 3, bound)
+    if q == 0 {
+        return 1;
+    }
+    q
 }
 
-// The best filling, where there is one of the worst quality `low` or a better one, and none of `top`; 15 otherwise.
-pub fn search_from(
+// The best filling of a prepared pool, where there is one of the worst quality `low` or a better one, and none of `top`; 15 otherwise.
+pub(crate) fn search_prepared(
     points: &[i32],
     triangles: &[u8],
     kept: &[u8],
     table: &[i32],
-    rim: &[u16],
+    rows: &[u16],
+    fours: &[u8],
+    codes: &[u16],
+    boundary: &[u16],
     bound: &[u8],
+    m: usize,
+    corners: &[u16],
+    piercing: &[u16],
+    head: &[u16],
+    next: &[u16],
+    watch: bool,
+    quals: &[u32],
     low: u32,
     top: u32,
     answer: &mut [u8],
 ) -> Found
-    requires { ⌜ (job-refusal (job-lists (now points) (now triangles) (now kept) (now table)) ≡ 0) × Rim (now triangles) (now rim) × Bound-flags (job (job-lists (now points) (now triangles) (now kept) (now table)) .triangles) (now bound) × (length (now bound) ≡ 4096) × (0 < low) × (low ≤ 1000000) × (top ≤ 1000001) × Under (job (job-lists (now points) (now triangles) (now kept) (now table))) top × (7280 ≤ length (now answer)) ⌝ }
+    requires { ⌜ Prepared (now points) (now triangles) (now kept) (now table) (now rows) (now fours) (now codes) (now boundary) (now bound) m (now corners) (now piercing) (now head) (now next) × Whole (now points) (now triangles) (now kept) (now table) low (now fours) (now codes) (now quals) m × (0 < low) × (low ≤ 1000000) × (top ≤ 1000001) × Under (job (job-lists (now points) (now triangles) (now kept) (now table))) top × (7280 ≤ length (now answer)) ⌝ }
     ensures { λ r. ⌜ Searched-from (job (job-lists (now (points .entry)) (now (triangles .entry)) (now (kept .entry)) (now (table .entry)))) low r (now (answer .entry)) (now (answer .exit)) ⌝ }
 {
-    let mut fours = [0u8; 7280];
-    let mut codes = [0u16; 7280];
-    let mut quals = [0u32; 1820];
-    let m = gather(
-        points,
-        triangles,
-        kept,
-        table,
-        bound,
-        low,
-        &mut fours,
-        &mut codes,
-        &mut quals,
-    );
-    let mut fours2 = [0u8; 7280];
-    let mut codes2 = [0u16; 7280];
-    let mut quals2 = [0u32; 1820];
+    let mut owners = [0u16; 4096];
+    let mut held = [0u16; 4096];
+    let mut trail = [0u16; 1820];
     let a = try_threshold(
         points,
         triangles,
         kept,
         table,
-        rim,
+        rows,
+        fours,
+        codes,
+        boundary,
         bound,
-        low,
-        &fours,
-        &codes,
-        &quals,
         m,
-        &mut fours2,
-        &mut codes2,
-        &mut quals2,
+        corners,
+        piercing,
+        head,
+        next,
+        watch,
+        quals,
+        low,
+        &mut owners,
+        &mut held,
+        &mut trail,
     );
     if !a.found {
         return Found {
@@ -193,19 +243,213 @@ pub fn search_from(
         triangles,
         kept,
         table,
-        rim,
+        rows,
+        fours,
+        codes,
+        boundary,
         bound,
-        &fours2,
-        &codes2,
-        &quals2,
+        m,
+        corners,
+        piercing,
+        head,
+        next,
+        watch,
+        quals,
         a,
+        top,
+        &mut owners,
+        &mut held,
+        &mut trail,
+        answer,
+    )
+}
+
+// The same of a pool that has every candidate of the quality `low`.
+pub(crate) fn search_pool(
+    points: &[i32],
+    triangles: &[u8],
+    kept: &[u8],
+    table: &[i32],
+    rows: &[u16],
+    boundary: &[u16],
+    bound: &[u8],
+    fours: &[u8],
+    codes: &[u16],
+    quals: &[u32],
+    m: usize,
+    watch: bool,
+    low: u32,
+    top: u32,
+    answer: &mut [u8],
+) -> Found
+    requires { ⌜ (job-refusal (job-lists (now points) (now triangles) (now kept) (now table)) ≡ 0) × Rim (now triangles) (now boundary) × Bound-flags ((job (job-lists (now points) (now triangles) (now kept) (now table))) .triangles) (now bound) × (length (now bound) ≡ 4096) × Rows (points-in (now points)) (now rows) × Whole (now points) (now triangles) (now kept) (now table) low (now fours) (now codes) (now quals) m × (0 < low) × (low ≤ 1000000) × (top ≤ 1000001) × Under (job (job-lists (now points) (now triangles) (now kept) (now table))) top × (7280 ≤ length (now answer)) ⌝ }
+    ensures { λ r. ⌜ Searched-from (job (job-lists (now (points .entry)) (now (triangles .entry)) (now (kept .entry)) (now (table .entry)))) low r (now (answer .entry)) (now (answer .exit)) ⌝ }
+{
+    let mut corners = [0u16; 1820];
+    let mut piercing = [0u16; 29120];
+    let mut head = [0u16; 4096];
+    let mut next = [0u16; 7280];
+    prepare(
+        points,
+        triangles,
+        kept,
+        table,
+        rows,
+        fours,
+        codes,
+        boundary,
+        bound,
+        m,
+        &mut corners,
+        &mut piercing,
+        &mut head,
+        &mut next,
+    );
+    search_prepared(
+        points,
+        triangles,
+        kept,
+        table,
+        rows,
+        fours,
+        codes,
+        boundary,
+        bound,
+        m,
+        &corners,
+        &piercing,
+        &head,
+        &next,
+        watch,
+        quals,
+        low,
         top,
         answer,
     )
 }
 
+// The same of all candidates: what pruning leaves of them at `low`.
+pub(crate) fn search_from(
+    points: &[i32],
+    triangles: &[u8],
+    kept: &[u8],
+    table: &[i32],
+    rows: &[u16],
+    boundary: &[u16],
+    bound: &[u8],
+    fours: &[u8],
+    codes: &[u16],
+    quals: &[u32],
+    m: usize,
+    watch: bool,
+    low: u32,
+    top: u32,
+    answer: &mut [u8],
+) -> Found
+    requires { ⌜ (job-refusal (job-lists (now points) (now triangles) (now kept) (now table)) ≡ 0) × Rim (now triangles) (now boundary) × Bound-flags ((job (job-lists (now points) (now triangles) (now kept) (now table))) .triangles) (now bound) × (length (now bound) ≡ 4096) × Rows (points-in (now points)) (now rows) × Whole (now points) (now triangles) (now kept) (now table) 1 (now fours) (now codes) (now quals) m × (0 < low) × (low ≤ 1000000) × (top ≤ 1000001) × Under (job (job-lists (now points) (now triangles) (now kept) (now table))) top × (7280 ≤ length (now answer)) ⌝ }
+    ensures { λ r. ⌜ Searched-from (job (job-lists (now (points .entry)) (now (triangles .entry)) (now (kept .entry)) (now (table .entry)))) low r (now (answer .entry)) (now (answer .exit)) ⌝ }
+{
+    let mut fours2 = [0u8; 7280];
+    let mut codes2 = [0u16; 7280];
+    let mut quals2 = [0u32; 1820];
+    let c = reduce(
+        points,
+        triangles,
+        kept,
+        table,
+        bound,
+        low,
+        fours,
+        codes,
+        quals,
+        m,
+        &mut fours2,
+        &mut codes2,
+        &mut quals2,
+    );
+    search_pool(
+        points,
+        triangles,
+        kept,
+        table,
+        rows,
+        boundary,
+        bound,
+        &fours2,
+        &codes2,
+        &quals2,
+        c,
+        watch,
+        low,
+        top,
+        answer,
+    )
+}
+
+// The best filling from all candidates: from a guess on, and from 1 on where that finds nothing.
+pub(crate) fn search_candidates(
+    points: &[i32],
+    triangles: &[u8],
+    kept: &[u8],
+    table: &[i32],
+    rows: &[u16],
+    boundary: &[u16],
+    bound: &[u8],
+    fours: &[u8],
+    codes: &[u16],
+    quals: &[u32],
+    m: usize,
+    answer: &mut [u8],
+) -> Found
+    requires { ⌜ (job-refusal (job-lists (now points) (now triangles) (now kept) (now table)) ≡ 0) × Rim (now triangles) (now boundary) × Bound-flags ((job (job-lists (now points) (now triangles) (now kept) (now table))) .triangles) (now bound) × (length (now bound) ≡ 4096) × Rows (points-in (now points)) (now rows) × Whole (now points) (now triangles) (now kept) (now table) 1 (now fours) (now codes) (now quals) m × (7280 ≤ length (now answer)) ⌝ }
+    ensures { λ r. ⌜ Searched (job (job-lists (now (points .entry)) (now (triangles .entry)) (now (kept .entry)) (now (table .entry)))) r (now (answer .entry)) (now (answer .exit)) ⌝ }
+{
+    let watch = anything_loose(points.len() / 3, triangles, kept);
+    let low = opening(codes, quals, m, boundary, triangles.len() / 3, bound);
+    let r = search_from(
+        points,
+        triangles,
+        kept,
+        table,
+        rows,
+        boundary,
+        bound,
+        fours,
+        codes,
+        quals,
+        m,
+        watch,
+        low,
+        1_000_001,
+        answer,
+    );
+    if r.number == 0 {
+        return r;
+    }
+    if low == 1 {
+        return r;
+    }
+    search_from(
+        points,
+        triangles,
+        kept,
+        table,
+        rows,
+        boundary,
+        bound,
+        fours,
+        codes,
+        quals,
+        m,
+        watch,
+        1,
+        low,
+        answer,
+    )
+}
+
 // The answer to a job that is not refused, into a buffer of 7,280 bytes at least.
-pub fn search_accepted(
+pub(crate) fn search_accepted(
     points: &[i32],
     triangles: &[u8],
     kept: &[u8],
@@ -215,39 +459,64 @@ pub fn search_accepted(
     requires { ⌜ (job-refusal (job-lists (now points) (now triangles) (now kept) (now table)) ≡ 0) × (7280 ≤ length (now answer)) ⌝ }
     ensures { λ r. ⌜ Searched (job (job-lists (now (points .entry)) (now (triangles .entry)) (now (kept .entry)) (now (table .entry)))) r (now (answer .entry)) (now (answer .exit)) ⌝ }
 {
-    let r = rim_codes(triangles);
-    let rim = r.code;
-    let b = named(&rim, triangles.len() / 3);
-    let bound = b.flag;
-    let low = opening(points, triangles, kept, table, &rim, &bound);
-    if low < 2 {
-        return search_from(
-            points,
-            triangles,
-            kept,
-            table,
-            &rim,
-            &bound,
-            1,
-            1_000_001,
-            answer,
-        );
-    }
-    let f = search_from(
+    let mut rows = [0u16; 4096];
+    fill_rows(points, &mut rows);
+    let b = boundary_codes(triangles);
+    let boundary = b.code;
+    let f = named(&boundary, triangles.len() / 3);
+    let bound = f.flag;
+    let mut fours = [0u8; 7280];
+    let mut codes = [0u16; 7280];
+    let mut quals = [0u32; 1820];
+    let m = gather(
         points,
         triangles,
         kept,
         table,
-        &rim,
+        &rows,
         &bound,
-        low,
-        1_000_001,
-        answer,
+        1,
+        &mut fours,
+        &mut codes,
+        &mut quals,
     );
-    if f.number == 0 {
-        return f;
+    search_candidates(
+        points,
+        triangles,
+        kept,
+        table,
+        &rows,
+        &boundary,
+        &bound,
+        &fours,
+        &codes,
+        &quals,
+        m,
+        answer,
+    )
+}
+
+// Whether some point or kept edge may lie off the boundary; nothing rests on it.
+pub(crate) fn anything_loose(n: usize, triangles: &[u8], kept: &[u8]) -> bool {
+    if kept.len() > 0 {
+        return true;
     }
-    search_from(points, triangles, kept, table, &rim, &bound, 1, low, answer)
+    for p in 0..n {
+        if !is_on_boundary(triangles, p) {
+            return true;
+        }
+    }
+    false
+}
+
+fn is_on_boundary(triangles: &[u8], p: usize) -> bool {
+    for i in 0..triangles.len() {
+        let x = triangles[i] as usize;
+        if x == p {
+            return true;
+        }
+    }
+    false
 }
 
 pub fn search(

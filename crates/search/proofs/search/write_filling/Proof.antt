@@ -3,7 +3,7 @@ use mathlib.Core.Path.{_≡_, _∙_}
 use mathlib.Core.Logic.{⊎-elim}
 use Prim.Native.Nat.{_-_, _≤_}
 use native.Mathlib.Omega.{arith}
-use Rattle.search.proofs.CopiedInOrder.{Written-front, front-at, front-below, front-length, front-pass, front-start, front-write}
+use Rattle.search.proofs.WrittenInFront.{Written-front, front-at, front-below, front-length, front-pass, front-start, front-write}
 use Rattle.search.proofs.search.write_filling.Statement.{statement}
 use Rattle.search.proofs.search.write_filling.Tie as tie
 

@@ -1,0 +1,41 @@
+-- The first list by marks: it begins with the candidates of the best quality alive, and ends when all are passed. Assumes nothing.
+use mathlib.Core.Path.{_≡_, subst}
+use mathlib.Core.Bool.{Bool, true, false}
+use mathlib.Core.Logic.{_⊎_, inl, inr}
+use mathlib.Core.List.{List}
+use Prim.Native.Nat.{ℕ, suc, _≤_, _<_}
+use native.Mathlib.Omega.{arith}
+use lib.ListN.{length, getD}
+use Rattle.geometry.specs.declared.tetrahedron.Four.{Four}
+use Rattle.laws.specs.Laws.{Job, entry, quality, Tri, all-faces, worst, Best, bytes}
+use Rattle.laws.specs.Promise.{Best-alone}
+use Rattle.laws.specs.inner.Members.{Any, In}
+use Rattle.laws.proofs.Basics.Tests.{contradiction}
+use Rattle.laws.proofs.Basics.Lists.{any-of-member}
+use Rattle.laws.proofs.Choice.Promises.{best-alone}
+use Rattle.fillings.specs.Part.{open-face}
+use Rattle.fillings.specs.Marks.{nth, Pool, Covers, marked, Fills, Started, Extended}
+use Rattle.fillings.proofs.Parts.Boundary.{Boundary}
+use Rattle.fillings.proofs.Parts.Worst.{worst-equals}
+use Rattle.fillings.proofs.Parts.NewOwners.{closed-of-none-open, open-face-of}
+use Rattle.fillings.proofs.Choice.FirstList.{first-best, first-moved, first-start, first-worth, only-witness-closed, only-witness-passed}
+use Rattle.fillings.proofs.Choice.Bisection.{Bounds, bounds-end, bounds-found, bounds-none, bounds-none-lawful}
+use Rattle.fillings.proofs.ByNumber.Numbers.{marked-number, number-marked}
+use Rattle.fillings.proofs.ByNumber.Start.{started-from, started-into}
+use Rattle.fillings.proofs.ByNumber.FirstByNumber.{First-marks}
+
+pub first-begin :
+    {j : Job} {cs : List Four} {p q hi : ℕ} {W : List Four} {ms : List ℕ} → Boundary (j .triangles) → Pool j cs → Covers j p cs → p ≤ q → 0 < q → Bounds j q hi W → Started j cs q ms →
+    First-marks j q cs ms W
+first-begin {q = q} d c v u p b s = let w = b .found p in let k = b .small in let l = b .order in first-moved (started-into c s u (omega arith) v) (first-start q d (w .0) (w .1))
+
+-- what is found on the way is of that quality, since it is between the marks of the start
+pub found-worth :
+    {j : Job} {cs : List Four} {q hi : ℕ} {W N : List Four} {ms : List ℕ} → Pool j cs → hi ≤ suc q → Bounds j q hi W → Started j cs q ms → Fills j cs ms N → worst j N ≡ q
+found-worth {N = N} c h b s e = let k = b .order in let i = b .small in first-worth (omega arith) (bounds-end h b) (started-from c s N e)
+
+-- all passed
+pub best-passed :
+    {j : Job} {q hi : ℕ} {W N : List Four} (cs : List Four) (ms : List ℕ) → Boundary (j .triangles) → hi ≤ suc q → Bounds j q hi W →
+    ((k : ℕ) → k < length cs → getD ms k 0 ≡ 1 → ⊥) → First-marks j q cs ms N → Best j N
+best-passed cs ms d h b none i = first-best (bounds-end h b) (only-witness-passed d (λ f m. let r = marked-number 1 cs ms m in none (r .number) (r .below) (r .mark)) (i .witness)) i

@@ -1,0 +1,3 @@
+// The first list among the best.
+// Assumes nothing.
+pub mod first;

@@ -1,0 +1,70 @@
+-- `search::search::search_candidates` meets its contract: a search from a guess on, and from 1 on where that finds nothing. Assumes nothing.
+use borrow.Author.Needs.{needs}
+use native.Mathlib.Omega.{arith}
+use Rattle.fillings.proofs.ByCode.RimFlags.{context-codes-below}
+use Rattle.fillings.proofs.ByCode.Settling.{context-rim-below}
+use Rattle.search.proofs.FromThreshold.{under-all}
+use Rattle.search.proofs.Again.{as-long, from-guess-1, from-one-again}
+use Rattle.thresholds.proofs.Trying.Thresholds.{filed-context, quals-long}
+use Rattle.search.proofs.search.search_candidates.Statement.{statement}
+use Rattle.search.proofs.search.search_candidates.Tie as tie
+
+anything-loose-requires : tie.Need-anything-loose-requires
+anything-loose-requires c κs = search needs
+
+opening-requires : tie.Need-opening-requires
+opening-requires c κs =
+    let s = c .before .before .before .before .before .before .before .before .before .before in
+    let x = s .args in
+    let f = s .pre .5 .filed in
+    let k = filed-context (s .pre .0) f (s .pre .2) (s .pre .3) in
+    (record { few = f .few; below = context-codes-below k }, quals-long f, context-rim-below k (s .pre .1), s .pre .3)
+
+search-from-requires : tie.Need-search-from-requires
+search-from-requires c κs =
+    let p = c .before .before .before .before .before .before .before .before .before .before .before .before .pre in
+    let o = c .before .opening .ensures in
+    (p .0, p .1, p .2, p .3, p .4, p .5, o .0, o .1, omega arith, under-all _, p .6)
+
+same-length : tie.Need-same-length
+same-length c = search needs
+
+returns : tie.Need-returns
+returns c =
+    c .before .before .before .before .search-from .ensures .found (c .if1 .taken)
+
+same-length-2 : tie.Need-same-length-2
+same-length-2 c = search needs
+
+returns-2 : tie.Need-returns-2
+returns-2 c =
+    from-guess-1 (c .if2 .taken) (c .before .before .before .before .before .search-from .ensures)
+
+search-from-requires-2 : tie.Need-search-from-requires-2
+search-from-requires-2 c κs =
+    let p = c .before .before .before .before .before .before .before .before .before .before .before .before .before .before .before .before .before .before .before .pre in
+    let o = c .before .before .before .before .before .before .before .before .opening .ensures in
+    let w = c .before .before .before .before .before .before .search-from .ensures .none-there (c .before .before .if1 .left) in
+    (p .0, p .1, p .2, p .3, p .4, p .5, omega arith, omega arith, omega arith, w .2, as-long (w .1) (p .6))
+
+same-length-3 : tie.Need-same-length-3
+same-length-3 c = search needs
+
+returns-3 : tie.Need-returns-3
+returns-3 c =
+    from-one-again (c .before .before .before .before .before .before .before .before .before .search-from .ensures .none-there (c .before .before .before .before .before .if1 .left) .1) (c .before .before .search-from2 .ensures)
+
+pub search-candidates-spec : {M : Type 1} → statement M
+search-candidates-spec =
+    tie.close
+    (tie.spec
+    anything-loose-requires
+    opening-requires
+    search-from-requires
+    same-length
+    returns
+    same-length-2
+    returns-2
+    search-from-requires-2
+    same-length-3
+    returns-3)

@@ -1,0 +1,5 @@
+-- A threshold tried: the start, what is found, the bounds.
+pub mod Beginning
+pub mod Thresholds
+pub mod Attempts
+pub mod WorstByNumber
