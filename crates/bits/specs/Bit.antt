@@ -1,8 +1,10 @@
--- The binary digits of a number, lowest first, as a set of numbers. Assumes nothing: these are definitions.
+-- The binary digits of a number, lowest first, as a set of numbers; and those of a list of words of 64. Assumes nothing: these are definitions.
 use mathlib.Core.Path.{_≡_}
 use mathlib.Core.Bool.{Bool, true, false, _&&_, _||_}
+use mathlib.Core.List.{List}
 use Prim.Native.Nat.{ℕ, _/_, _%_, _^_}
 use lib.Dec.{eqb}
+use lib.ListN.{length, getD}
 
 -- the digit i of x is set: i is a member
 unfoldable pub bit : (i x : ℕ) → Bool
@@ -30,3 +32,12 @@ pub record Disjoint (x y : ℕ) : Type 0 where
 pub record Meet (x y : ℕ) : Type 0 where
   pub at : ℕ
   pub both : (bit at x && bit at y) ≡ true
+
+-- i is a member of a set of words
+unfoldable pub in-words : (s : List ℕ) (i : ℕ) → Bool
+in-words s i = bit (i % 64) (getD s (i / 64) 0)
+
+-- t is s with i besides, as long as it was
+pub record Put (s : List ℕ) (i : ℕ) (t : List ℕ) : Type 0 where
+  pub long : length t ≡ length s
+  pub each : (j : ℕ) → in-words t j ≡ (eqb j i || in-words s j)

@@ -1,2 +1,3 @@
-// Sets of small numbers as the bits of a word. Assumes nothing.
+// Sets of small numbers as the bits of a word, and of a list of words. Assumes nothing.
 pub mod word16;
+pub mod words;

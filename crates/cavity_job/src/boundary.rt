@@ -42,7 +42,7 @@ fn with_face(
     b: usize,
     c: usize,
 ) -> Boundary
-    requires { ⌜ (list .count < 1024) × ((a < 256) × (b < 256) × (c < 256)) × (length (now numbers) ≤ 16) ⌝ }
+    requires { ⌜ (list .count < 1024) × ((a < 64) × (b < 64) × (c < 64)) × (length (now numbers) ≤ 16) ⌝ }
     ensures { λ r. ⌜ (r .count ≤ list .count + 1) × ((ts : List Tri) → Listed (now (numbers .entry)) ts (list .triangle) (list .count) → Listed (now (numbers .entry)) (ts ++ open-face (now (codes .entry)) (tri a b c)) (r .triangle) (r .count)) ⌝ }
 {
     if has_code(codes, tri_code(a, c, b)) {
@@ -61,7 +61,7 @@ fn with_face(
 
 // The list with the faces of f, unless matched, behind the others.
 fn with_faces(list: Boundary, codes: &[u32], numbers: &[u8], f: Four) -> Boundary
-    requires { ⌜ (list .count ≤ 1020) × Below 256 f × (length (now numbers) ≤ 16) ⌝ }
+    requires { ⌜ (list .count ≤ 1020) × Below 64 f × (length (now numbers) ≤ 16) ⌝ }
     ensures { λ r. ⌜ ((ts : List Tri) → Listed (now (numbers .entry)) ts (list .triangle) (list .count) → Listed (now (numbers .entry)) (ts ++ open-faces (now (codes .entry)) (faces f)) (r .triangle) (r .count)) ⌝ }
 {
     let l = with_face(list, codes, numbers, f.a, f.c, f.b);

@@ -1,10 +1,11 @@
 -- The outward faces of a sound mesh by number: number 19 is that no number comes twice; and their numbers stored tetrahedron by
 -- tetrahedron. Assumes nothing.
-use mathlib.Core.Path.{_≡_, sym, ap, _∙_}
+use mathlib.Core.Path.{_≡_, sym, subst, ap, _∙_}
 use mathlib.Core.List.{List, [], _∷_, _++_, map, map-append, append-nil}
 use Prim.Native.Nat.{ℕ, _+_, _*_, _/_, _≤_, _<_}
 use native.Mathlib.Omega.{arith}
-use lib.ListN.{length, set, take, replicate, length-map}
+use lib.ListN.{length, getD, set, take, replicate, length-map}
+use lib.Seq.{getD-take}
 use lib.IntN.{ℤ}
 use Rattle.geometry.specs.Space.{V3, points-in, turned}
 use Rattle.geometry.specs.declared.tetrahedron.Four.{Four}
@@ -17,7 +18,7 @@ use Rattle.bench_rules.specs.inner.Sound.{Sound-mesh}
 use Rattle.bench_rules.proofs.Marks.Entries.{entries-none, entries-put-four, array-length, array-front}
 use Rattle.bench_rules.proofs.Mesh.Fours.{fours-in-more, mesh-fours-length}
 use Rattle.mesh.specs.inner.Codes.{tri-code, all-different}
-use Rattle.mesh.proofs.TriCodes.{once-by-code}
+use Rattle.mesh.proofs.TriCodes.{codes-below, once-by-code}
 use Rattle.mesh.proofs.MeshFaces.{all-faces-append, all-faces-length, mesh-faces-proper}
 
 -- ---- the numbers of the first n tetrahedra's faces
@@ -75,6 +76,11 @@ module _ (cs : List ℤ) (ts : List ℕ) {code : List ℕ} (m : Sound-mesh cs ts
 
   pub codes-front : take (length ts) code ≡ map tri-code (all-faces (points-in cs) (mesh-fours ts))
   codes-front = let few = m .tets-few in array-front 0 1024 (map tri-code (all-faces (points-in cs) (mesh-fours ts))) e (sym all-long) (omega arith)
+
+  pub number-below : (i : ℕ) → i < length ts → getD code i 0 < 262144
+  number-below i h =
+      subst (λ (c : ℕ). c < 262144) (ap (λ (l : List ℕ). getD l i 0) (sym codes-front) ∙ getD-take (length ts) code i 0 h)
+      (codes-below (mesh-faces-proper cs ts m) i)
 
   -- number 19
   pub once-by-numbers : once (all-faces (points-in cs) (mesh-fours ts)) ≡ all-different (take (length ts) code)

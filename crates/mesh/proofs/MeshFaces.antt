@@ -30,17 +30,17 @@ module _ (ps : List V3) where
   all-faces-length (f ∷ fs) = let h = all-faces-length fs in omega arith
 
 -- ---- corners in the order that makes D positive
-turned-small : (ps : List V3) (f : Four) → length ps ≤ 64 → Sound ps f → Below 256 (turned ps f)
+turned-small : (ps : List V3) (f : Four) → length ps ≤ 64 → Sound ps f → Below 64 (turned ps f)
 turned-small ps f h s =
-    turned-below 256 ps f (record { a = omega (arith, s .a-in); b = omega (arith, s .b-in); c = omega (arith, s .c-in); d = omega (arith, s .d-in) })
+    turned-below 64 ps f (record { a = omega (arith, s .a-in); b = omega (arith, s .b-in); c = omega (arith, s .c-in); d = omega (arith, s .d-in) })
 
 pub oriented-small :
-    (cs : List ℤ) (ts : List ℕ) → Sound-mesh cs ts → (i : ℕ) → i < length ts / 4 → {f t : Four} → f ≡ four-at ts i → t ≡ turned (points-in cs) f → Below 256 t
+    (cs : List ℤ) (ts : List ℕ) → Sound-mesh cs ts → (i : ℕ) → i < length ts / 4 → {f t : Four} → f ≡ four-at ts i → t ≡ turned (points-in cs) f → Below 64 t
 oriented-small cs ts m i h p q =
-    subst (Below 256) (sym (q ∙ ap (turned (points-in cs)) p)) (turned-small (points-in cs) (four-at ts i) (m .points-few) (sound-at cs ts m i h))
+    subst (Below 64) (sym (q ∙ ap (turned (points-in cs)) p)) (turned-small (points-in cs) (four-at ts i) (m .points-few) (sound-at cs ts m i h))
 
 -- ---- proper triangles
-faces-proper : (f : Four) → Distinct-corners f → Below 256 f → Each Proper (faces f)
+faces-proper : (f : Four) → Distinct-corners f → Below 64 f → Each Proper (faces f)
 unfolding faces tri
 faces-proper f u s =
     more (record { ab = u .ac; ac = u .ab; bc = λ e. u .bc (sym e); a-small = s .a; b-small = s .c; c-small = s .b })

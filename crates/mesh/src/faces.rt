@@ -1,13 +1,14 @@
 // Outward faces of a mesh by number (number 19). Assumes nothing.
+use bits::words::has;
+use bits::words::put;
 use geometry::tetrahedron::oriented;
 use judge::fours::four_at;
 ghost use mathlib.Core.Path.{_≡_};
 ghost use mathlib.Core.List.{map};
-ghost use Prim.Native.Nat.{suc, _≤_, _<_};
-ghost use lib.ListN.{length, getD, take, drop};
+ghost use Prim.Native.Nat.{_<_};
 ghost use Rattle.geometry.specs.Space.{points-in};
 ghost use Rattle.laws.specs.Laws.{tri, all-faces, once};
-ghost use Rattle.bench_rules.specs.Bench.{mesh-fours, member};
+ghost use Rattle.bench_rules.specs.Bench.{mesh-fours};
 ghost use Rattle.bench_rules.specs.inner.Marks.{entries};
 ghost use Rattle.bench_rules.specs.inner.Sound.{Sound-mesh};
 ghost use Rattle.mesh.specs.inner.Codes.{tri-code};
@@ -18,16 +19,16 @@ pub struct FaceCodes {
 
 // The number of the triangle a, b, c, the same from whichever corner it is read.
 pub fn tri_code(a: usize, b: usize, c: usize) -> u32
-    requires { ⌜ (a < 256) × (b < 256) × (c < 256) ⌝ }
+    requires { ⌜ (a < 64) × (b < 64) × (c < 64) ⌝ }
     ensures { λ r. ⌜ r ≡ tri-code (tri a b c) ⌝ }
 {
     if (a < b) & (a < c) {
-        return (a * 65536 + b * 256 + c) as u32;
+        return (a * 4096 + b * 64 + c) as u32;
     }
     if b < c {
-        return (b * 65536 + c * 256 + a) as u32;
+        return (b * 4096 + c * 64 + a) as u32;
     }
-    (c * 65536 + a * 256 + b) as u32
+    (c * 4096 + a * 64 + b) as u32
 }
 
 // The numbers of the outward faces, tetrahedron by tetrahedron, with 0 behind them.
@@ -46,30 +47,20 @@ pub fn face_codes(points: &[i32], tets: &[u8]) -> FaceCodes
     f
 }
 
-// Whether one of the first n numbers, behind the i-th, is the same as the i-th.
-fn is_taken(code: &[u32], i: usize, n: usize) -> bool
-    requires { ⌜ (i < n) × (n ≤ length (now code)) ⌝ }
-    ensures { λ r. ⌜ r ≡ member (getD (now (code .entry)) i 0) (drop (suc i) (take n (now (code .entry)))) ⌝ }
-{
-    for k in i + 1..n {
-        if code[i] == code[k] {
-            return true;
-        }
-    }
-    false
-}
-
-// Whether each outward face belongs to one tetrahedron only.
+// Whether each outward face belongs to one tetrahedron only: the set has the numbers of the faces passed.
 pub fn faces_once(points: &[i32], tets: &[u8]) -> bool
     requires { ⌜ Sound-mesh (now points) (now tets) ⌝ }
     ensures { λ r. ⌜ r ≡ once (all-faces (points-in (now (points .entry))) (mesh-fours (now (tets .entry)))) ⌝ }
 {
     let f = face_codes(points, tets);
     let code = f.code;
+    let mut seen: [u64; 4096] = [0; 4096];
     for i in 0..tets.len() {
-        if is_taken(&code, i, tets.len()) {
+        let c = code[i] as usize;
+        if has(&seen, c) {
             return false;
         }
+        put(&mut seen, c);
     }
     true
 }
