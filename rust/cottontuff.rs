@@ -2,7 +2,7 @@
 //!
 //! `rt staticlib cottontuff` writes target/staticlib/libcottontuff.a; then `rustc -L native=target/staticlib` links a crate that has this file as a module.
 //! Every function takes any lists and answers: a filling, a verdict, or a `Number`. Nothing here panics on an input, and a refusal changes no lent byte.
-//! The search, the printout and `Bench::replace` want a thread with 1.5 MB of stack; threads of std have 2 MB.
+//! The search, the printout and `Bench::replace` want a thread with 768 KB of stack; threads of std have 2 MB.
 //!
 //! ```
 //! use cottontuff::{search, Job, Number};
