@@ -1,37 +1,89 @@
-# The library for C, its pkg-config file, and the examples, under target/. Needs the Rattle kit (RT) and a C compiler.
-#   make            the library, target/cottontuff.pc, the examples in C
-#   make install    into PREFIX (default /usr/local): library, header, pkg-config file, program and manual page
+# The library for C, its pkg-config file, the program and the examples, under target/. Needs the Rattle kit (RT) and a C compiler. `make help` lists the targets.
 RT = rt
 PREFIX = /usr/local
 CFLAGS = -O2 -Wall -Wextra
+VERSION = 1.0.0
+SONAME = libcottontuff.so.1
 library = target/staticlib/libcottontuff.a
+shared = target/lib/libcottontuff.so.$(VERSION)
+package = cottontuff-$(VERSION)-x86_64-linux
+# rt proves its crate anew at each call, so it is called only where a source is newer.
+sources = crates.txt $(shell find crates -name '*.rt' -o -name '*.antt')
 
-all: $(library) target/cottontuff.pc target/examples/bench-session
+all: $(library) $(shared) target/cottontuff.pc target/bin/cavity target/examples/bench-session
 
-# rt proves what has changed and leaves the rest.
-$(library): FORCE
-	$(RT) staticlib cottontuff >/dev/null
+help:
+	@echo 'make             the library, static and shared, target/cottontuff.pc, the program, the examples in C'
+	@echo 'make check       the gate: proves all from nothing (.ci/run, some 20 minutes)'
+	@echo 'make test        the tests outside the prover (tests/run)'
+	@echo 'make install     into PREFIX (default /usr/local; DESTDIR before it): libraries, header, pkg-config file, program, manual page, guide, Rust crate'
+	@echo 'make uninstall   takes them out again'
+	@echo 'make dist        target/$(package).tar.gz with its checksum: installs without the kit'
+	@echo 'make clean       removes target/'
 
-target/bin/cavity: FORCE
-	$(RT) check cavity >/dev/null
+$(library): $(sources)
+	@mkdir -p target
+	$(RT) staticlib cottontuff >target/staticlib.log 2>&1 || { tail -n 20 target/staticlib.log; exit 1; }
+	@touch $@
+
+target/bin/cavity: $(sources)
+	@mkdir -p target
+	$(RT) check cavity >target/cavity.log 2>&1 || { tail -n 20 target/cavity.log; exit 1; }
+	@touch $@
+
+$(shared): $(library)
+	mkdir -p target/lib
+	$(CC) -shared -Wl,-soname,$(SONAME) -o $@ -Wl,--whole-archive $(library) -Wl,--no-whole-archive
+	ln -sf libcottontuff.so.$(VERSION) target/lib/$(SONAME)
+	ln -sf $(SONAME) target/lib/libcottontuff.so
 
 # With another PREFIX its text is another.
-target/cottontuff.pc: FORCE
-	mkdir -p target
-	printf '%s\n' 'prefix=$(PREFIX)' 'Name: cottontuff' 'Description: proved cavity kernel' 'Version: 1.0.0' \
-		'Cflags: -I$${prefix}/include' 'Libs: -L$${prefix}/lib -lcottontuff' >$@
+target/cottontuff.pc: Makefile FORCE
+	@mkdir -p target
+	@printf '%s\n' 'prefix=$(PREFIX)' 'Name: cottontuff' 'Description: proved cavity kernel' 'Version: $(VERSION)' \
+		'Cflags: -I$${prefix}/include' 'Libs: -L$${prefix}/lib -lcottontuff' >$@.new
+	@cmp -s $@.new $@ && rm $@.new || mv $@.new $@
 
 target/examples/%: examples/%.c include/cottontuff.h $(library)
 	mkdir -p target/examples
 	$(CC) $(CFLAGS) -Iinclude -o $@ $< $(library)
 
-install: all target/bin/cavity
-	install -d $(DESTDIR)$(PREFIX)/lib/pkgconfig $(DESTDIR)$(PREFIX)/include $(DESTDIR)$(PREFIX)/bin $(DESTDIR)$(PREFIX)/share/man/man1
-	install -m 644 $(library) $(DESTDIR)$(PREFIX)/lib
-	install -m 644 target/cottontuff.pc $(DESTDIR)$(PREFIX)/lib/pkgconfig
-	install -m 644 include/cottontuff.h $(DESTDIR)$(PREFIX)/include
-	install -m 755 target/bin/cavity $(DESTDIR)$(PREFIX)/bin
-	install -m 644 man/cavity.1 $(DESTDIR)$(PREFIX)/share/man/man1
+check:
+	.ci/run
+
+test:
+	tests/run
+
+to = $(DESTDIR)$(PREFIX)
+install: all
+	install -d $(to)/lib/pkgconfig $(to)/include $(to)/bin $(to)/share/man/man1 $(to)/share/doc/cottontuff $(to)/share/cottontuff/rust
+	install -m 644 $(library) $(to)/lib
+	install -m 755 $(shared) $(to)/lib
+	ln -sf libcottontuff.so.$(VERSION) $(to)/lib/$(SONAME)
+	ln -sf $(SONAME) $(to)/lib/libcottontuff.so
+	install -m 644 target/cottontuff.pc $(to)/lib/pkgconfig
+	install -m 644 include/cottontuff.h $(to)/include
+	install -m 755 target/bin/cavity $(to)/bin
+	install -m 644 man/*.1 $(to)/share/man/man1
+	install -m 644 docs/GUIDE.md CHANGELOG.md $(to)/share/doc/cottontuff
+	install -m 644 rust/Cargo.toml rust/build.rs rust/cottontuff.rs $(to)/share/cottontuff/rust
+
+uninstall:
+	rm -f $(to)/lib/libcottontuff.a $(to)/lib/libcottontuff.so $(to)/lib/$(SONAME) $(to)/lib/libcottontuff.so.$(VERSION) $(to)/lib/pkgconfig/cottontuff.pc
+	rm -f $(to)/include/cottontuff.h $(to)/bin/cavity $(patsubst man/%,$(to)/share/man/man1/%,$(wildcard man/*.1))
+	rm -rf $(to)/share/doc/cottontuff $(to)/share/cottontuff
+
+# Everything below one folder, with a script that copies it into PREFIX.
+dist: all
+	rm -rf target/$(package)
+	$(MAKE) -s install DESTDIR=target/$(package) PREFIX=/files
+	install -m 755 packaging/install.sh target/$(package)/install.sh
+	$(MAKE) -s target/cottontuff.pc
+	tar -C target -czf target/$(package).tar.gz $(package)
+	cd target && sha256sum $(package).tar.gz >$(package).tar.gz.sha256
+
+clean:
+	rm -rf target
 
 FORCE:
-.PHONY: all install FORCE
+.PHONY: all help check test install uninstall dist clean FORCE
