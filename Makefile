@@ -14,7 +14,7 @@ all: $(library) $(shared) target/cottontuff.pc target/bin/cavity target/examples
 
 help:
 	@echo 'make             the library, static and shared, target/cottontuff.pc, the program, the examples in C'
-	@echo 'make check       the gate: proves all from nothing (.ci/run, some 20 minutes)'
+	@echo 'make check       the gate: proves all from nothing (.ci/run, some 25 minutes)'
 	@echo 'make test        the tests outside the prover (tests/run)'
 	@echo 'make install     into PREFIX (default /usr/local; DESTDIR before it): libraries, header, pkg-config file, program, manual page, guide, Rust crate'
 	@echo 'make uninstall   takes them out again'
