@@ -1,8 +1,7 @@
 // The boundary by face codes: in the order of the triangles, and as flags.
-ghost use mathlib.Core.Path.{_≡_};
-ghost use Prim.Native.Nat.{_*_, _/_, _<_, _≤_};
+ghost use Prim.Native.Nat.{_*_, _/_, _≤_};
 ghost use lib.ListN.{length};
-ghost use Rattle.fillings.specs.Tables.{All-below, Rim, Named};
+ghost use Rattle.fillings.specs.Tables.{All-below, Boundary-codes, Named};
 use signs::codes::face_code;
 
 pub struct Boundary {
@@ -17,7 +16,7 @@ pub struct Flags {
 // The numbers of the boundary triangles, in their order.
 pub fn boundary_codes(triangles: &[u8]) -> Boundary
     requires { ⌜ (length (now triangles) / 3 ≤ 560) × All-below 16 (length (now triangles) / 3 * 3) (now triangles) ⌝ }
-    ensures { λ r. ⌜ Rim (now (triangles .entry)) (r .code) × All-below 4096 (length (now (triangles .entry)) / 3) (r .code) ⌝ }
+    ensures { λ r. ⌜ Boundary-codes (now (triangles .entry)) (r .code) × All-below 4096 (length (now (triangles .entry)) / 3) (r .code) ⌝ }
 {
     let mut r = Boundary { code: [0; 560] };
     for i in 0..triangles.len() / 3 {

@@ -9,6 +9,7 @@ ghost use Rattle.geometry.specs.Space.{V3, points-in};
 ghost use Rattle.geometry.specs.declared.tetrahedron.Four.{Four};
 ghost use Rattle.laws.specs.Laws.{tri};
 ghost use Rattle.laws.specs.inner.FaceCodes.{Proper-below, face-code};
+ghost use Rattle.laws.specs.Lists.{job-lists};
 ghost use Rattle.fillings.specs.Codes.{Face-table};
 ghost use Rattle.fillings.specs.Marks.{nth};
 ghost use Rattle.fillings.specs.Pierce.{pierces};
@@ -80,7 +81,7 @@ pub fn piercing_sets(
     m: usize,
     piercing: &mut [u16],
 )
-    requires { ⌜ Context (now points) (now triangles) (now kept) (now table) (now fours) (now codes) (now bound) m × Rows (points-in (now points)) (now rows) × (length (now piercing) ≡ 29120) ⌝ }
+    requires { ⌜ Context (job-lists (now points) (now triangles) (now kept) (now table)) (now fours) (now codes) (now bound) m × Rows (points-in (now points)) (now rows) × (length (now piercing) ≡ 29120) ⌝ }
     ensures { λ _. ⌜ Piercing-sets (points-in (now (points .entry))) m (now (fours .entry)) (now (piercing .exit)) × (length (now (piercing .exit)) ≡ 29120) ⌝ }
 {
     for i in 0..m * 16 {

@@ -21,11 +21,11 @@ ghost use Rattle.signs.specs.Rows.{Rows, Distinct-below};
 use checker::table::next_four;
 use geometry::tetrahedron::Four;
 use signs::codes::face_code;
-use signs::codes::flip;
 use signs::sides::any_inside;
 use signs::sides::edge_pierces;
 use signs::sides::is_solid;
 use signs::sides::oriented;
+use trail::codes::flip;
 
 // The faces of a tetrahedron by code, outward where it is read in the order that makes its volume positive.
 struct Faces {
@@ -163,18 +163,18 @@ fn file(
     rows: &[u16],
     fours: &mut [u8],
     codes: &mut [u16],
-    quals: &mut [u32],
+    qualities: &mut [u32],
     k: usize,
     f: Four,
     q: u32,
 )
-    requires { ⌜ Rows (points-in (now points)) (now rows) × Distinct-below (length (points-in (now points))) f × ((f .a < 16) × (f .b < 16) × (f .c < 16) × (f .d < 16)) × (k < 1820) × (length (now fours) ≡ 7280) × (length (now codes) ≡ 7280) × (length (now quals) ≡ 1820) ⌝ }
-    ensures { λ r. ⌜ (now (fours .exit) ≡ put-four k (f .a) (f .b) (f .c) (f .d) (now (fours .entry))) × (now (codes .exit) ≡ put-faces k (turned (points-in (now (points .entry))) f) (now (codes .entry))) × (now (quals .exit) ≡ set (now (quals .entry)) k q) ⌝ }
+    requires { ⌜ Rows (points-in (now points)) (now rows) × Distinct-below (length (points-in (now points))) f × ((f .a < 16) × (f .b < 16) × (f .c < 16) × (f .d < 16)) × (k < 1820) × (length (now fours) ≡ 7280) × (length (now codes) ≡ 7280) × (length (now qualities) ≡ 1820) ⌝ }
+    ensures { λ r. ⌜ (now (fours .exit) ≡ put-four k (f .a) (f .b) (f .c) (f .d) (now (fours .entry))) × (now (codes .exit) ≡ put-faces k (turned (points-in (now (points .entry))) f) (now (codes .entry))) × (now (qualities .exit) ≡ set (now (qualities .entry)) k q) ⌝ }
 {
     let c = face_codes(oriented(rows, f));
     put_four(fours, k, f.a as u8, f.b as u8, f.c as u8, f.d as u8);
     put_faces(codes, k, c);
-    quals[k] = q;
+    qualities[k] = q;
 }
 
 // Files f where it is a candidate of quality q at least; how many are filed then.
@@ -191,11 +191,11 @@ fn consider_four(
     at: usize,
     fours: &mut [u8],
     codes: &mut [u16],
-    quals: &mut [u32],
+    qualities: &mut [u32],
     k: usize,
 ) -> usize
-    requires { ⌜ (job-refusal (job-lists (now points) (now triangles) (now kept) (now table)) ≡ 0) × Rows (points-in (now points)) (now rows) × Bound-flags (job (job-lists (now points) (now triangles) (now kept) (now table)) .triangles) (now bound) × (length (now bound) ≡ 4096) × (n ≡ length (points-in (now points))) × Ordered n f × (at ≡ place n f) × (0 < q) × (length (now fours) ≡ 7280) × (length (now codes) ≡ 7280) × (length (now quals) ≡ 1820) × (candidate (job (job-lists (now points) (now triangles) (now kept) (now table))) f ≡ true → k < 1820) ⌝ }
-    ensures { λ r. ⌜ Considered (job (job-lists (now (points .entry)) (now (triangles .entry)) (now (kept .entry)) (now (table .entry)))) q f (now (fours .entry)) (now (codes .entry)) (now (quals .entry)) k (now (fours .exit)) (now (codes .exit)) (now (quals .exit)) r ⌝ }
+    requires { ⌜ (job-refusal (job-lists (now points) (now triangles) (now kept) (now table)) ≡ 0) × Rows (points-in (now points)) (now rows) × Bound-flags (job (job-lists (now points) (now triangles) (now kept) (now table)) .triangles) (now bound) × (length (now bound) ≡ 4096) × (n ≡ length (points-in (now points))) × Ordered n f × (at ≡ place n f) × (0 < q) × (length (now fours) ≡ 7280) × (length (now codes) ≡ 7280) × (length (now qualities) ≡ 1820) × (candidate (job (job-lists (now points) (now triangles) (now kept) (now table))) f ≡ true → k < 1820) ⌝ }
+    ensures { λ r. ⌜ Considered (job (job-lists (now (points .entry)) (now (triangles .entry)) (now (kept .entry)) (now (table .entry)))) q f (now (fours .entry)) (now (codes .entry)) (now (qualities .entry)) k (now (fours .exit)) (now (codes .exit)) (now (qualities .exit)) r ⌝ }
 {
     let e = table[at];
     if e <= 0 {
@@ -208,7 +208,7 @@ fn consider_four(
     if !can_stand(points, triangles, kept, table, rows, bound, n, f) {
         return k;
     }
-    file(points, rows, fours, codes, quals, k, f, v);
+    file(points, rows, fours, codes, qualities, k, f, v);
     k + 1
 }
 
@@ -223,10 +223,10 @@ pub fn gather(
     q: u32,
     fours: &mut [u8],
     codes: &mut [u16],
-    quals: &mut [u32],
+    qualities: &mut [u32],
 ) -> usize
-    requires { ⌜ (job-refusal (job-lists (now points) (now triangles) (now kept) (now table)) ≡ 0) × Rows (points-in (now points)) (now rows) × Bound-flags (job (job-lists (now points) (now triangles) (now kept) (now table)) .triangles) (now bound) × (length (now bound) ≡ 4096) × (0 < q) × (length (now fours) ≡ 7280) × (length (now codes) ≡ 7280) × (length (now quals) ≡ 1820) ⌝ }
-    ensures { λ r. ⌜ Whole (now (points .entry)) (now (triangles .entry)) (now (kept .entry)) (now (table .entry)) q (now (fours .exit)) (now (codes .exit)) (now (quals .exit)) r ⌝ }
+    requires { ⌜ (job-refusal (job-lists (now points) (now triangles) (now kept) (now table)) ≡ 0) × Rows (points-in (now points)) (now rows) × Bound-flags (job (job-lists (now points) (now triangles) (now kept) (now table)) .triangles) (now bound) × (length (now bound) ≡ 4096) × (0 < q) × (length (now fours) ≡ 7280) × (length (now codes) ≡ 7280) × (length (now qualities) ≡ 1820) ⌝ }
+    ensures { λ r. ⌜ Whole (job-lists (now (points .entry)) (now (triangles .entry)) (now (kept .entry)) (now (table .entry))) q (now (fours .exit)) (now (codes .exit)) (now (qualities .exit)) r ⌝ }
 {
     let n = points.len() / 3;
     let mut f = Four {
@@ -251,7 +251,7 @@ pub fn gather(
             at,
             fours,
             codes,
-            quals,
+            qualities,
             k,
         );
         f = next_four(n, f);
@@ -264,15 +264,15 @@ pub fn gather(
 fn copy_candidate(
     fours: &[u8],
     codes: &[u16],
-    quals: &[u32],
+    qualities: &[u32],
     k: usize,
     fours2: &mut [u8],
     codes2: &mut [u16],
-    quals2: &mut [u32],
+    qualities2: &mut [u32],
     c: usize,
 )
-    requires { ⌜ (k * 4 + 4 ≤ length (now fours)) × (k * 4 + 4 ≤ length (now codes)) × (k < length (now quals)) × (c * 4 + 4 ≤ length (now fours2)) × (c * 4 + 4 ≤ length (now codes2)) × (c < length (now quals2)) ⌝ }
-    ensures { λ r. ⌜ (now (fours2 .exit) ≡ copied k c (now (fours .entry)) (now (fours2 .entry))) × (now (codes2 .exit) ≡ copied k c (now (codes .entry)) (now (codes2 .entry))) × (now (quals2 .exit) ≡ set (now (quals2 .entry)) c (getD (now (quals .entry)) k 0)) ⌝ }
+    requires { ⌜ (k * 4 + 4 ≤ length (now fours)) × (k * 4 + 4 ≤ length (now codes)) × (k < length (now qualities)) × (c * 4 + 4 ≤ length (now fours2)) × (c * 4 + 4 ≤ length (now codes2)) × (c < length (now qualities2)) ⌝ }
+    ensures { λ r. ⌜ (now (fours2 .exit) ≡ copied k c (now (fours .entry)) (now (fours2 .entry))) × (now (codes2 .exit) ≡ copied k c (now (codes .entry)) (now (codes2 .entry))) × (now (qualities2 .exit) ≡ set (now (qualities2 .entry)) c (getD (now (qualities .entry)) k 0)) ⌝ }
 {
     put_four(
         fours2,
@@ -292,7 +292,7 @@ fn copy_candidate(
             d: codes[k * 4 + 3],
         },
     );
-    quals2[c] = quals[k];
+    qualities2[c] = qualities[k];
 }
 
 // The alive ones of a pool as a pool of their own.
@@ -303,21 +303,21 @@ pub fn compact(
     table: &[i32],
     fours: &[u8],
     codes: &[u16],
-    quals: &[u32],
+    qualities: &[u32],
     m: usize,
     marks: &[u8],
     fours2: &mut [u8],
     codes2: &mut [u16],
-    quals2: &mut [u32],
+    qualities2: &mut [u32],
 ) -> usize
-    requires { ⌜ Filed (now points) (now triangles) (now kept) (now table) (now fours) (now codes) (now quals) m × (m ≤ length (now marks)) × (length (now fours2) ≡ 7280) × (length (now codes2) ≡ 7280) × (length (now quals2) ≡ 1820) ⌝ }
-    ensures { λ r. ⌜ Filed (now (points .entry)) (now (triangles .entry)) (now (kept .entry)) (now (table .entry)) (now (fours2 .exit)) (now (codes2 .exit)) (now (quals2 .exit)) r × (fours-in r (now (fours2 .exit)) ≡ marked 1 (fours-in m (now (fours .entry))) (now (marks .entry))) ⌝ }
+    requires { ⌜ Filed (job-lists (now points) (now triangles) (now kept) (now table)) (now fours) (now codes) (now qualities) m × (m ≤ length (now marks)) × (length (now fours2) ≡ 7280) × (length (now codes2) ≡ 7280) × (length (now qualities2) ≡ 1820) ⌝ }
+    ensures { λ r. ⌜ Filed (job-lists (now (points .entry)) (now (triangles .entry)) (now (kept .entry)) (now (table .entry))) (now (fours2 .exit)) (now (codes2 .exit)) (now (qualities2 .exit)) r × (fours-in r (now (fours2 .exit)) ≡ marked 1 (fours-in m (now (fours .entry))) (now (marks .entry))) ⌝ }
 {
     let mut c: usize = 0;
     for k in 0..m {
         let x = marks[k];
         if x == 1 {
-            copy_candidate(fours, codes, quals, k, fours2, codes2, quals2, c);
+            copy_candidate(fours, codes, qualities, k, fours2, codes2, qualities2, c);
             c += 1;
         }
     }

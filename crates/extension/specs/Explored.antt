@@ -3,19 +3,12 @@ use mathlib.Core.Path.{_≡_}
 use mathlib.Core.Bool.{Bool, false}
 use mathlib.Core.List.{List}
 use Prim.Native.Nat.{ℕ}
-use lib.ListN.{length, set}
+use lib.ListN.{set}
 use Rattle.geometry.specs.declared.tetrahedron.Four.{Four}
 use Rattle.laws.specs.Laws.{Job}
 use Rattle.fillings.specs.Marks.{Extended, Cornered}
-use Rattle.trail.specs.State.{Trailed}
+use Rattle.trail.specs.State.{Sized, Trailed}
 use Rattle.shaving.specs.Shaved.{As-it-was}
-
--- the buffers of a state are as long as they must be
-pub record Sized (marks owners held trail : List ℕ) : Type 0 where
-  pub marks-long : length marks ≡ 1820
-  pub owners-long : length owners ≡ 4096
-  pub held-long : length held ≡ 4096
-  pub trail-long : length trail ≡ 1820
 
 -- a search from a state: a filling as the set candidates, or none and a state from which the old one can be had back
 pub record Explored (j : Job) (cs : List Four) (m : ℕ) (codes ms held tr : List ℕ) (top : ℕ) (found : Bool) (ns owners held-now ur : List ℕ) (end : ℕ) : Type 0 where

@@ -1,21 +1,21 @@
 // The search proper: a face goes over the candidates that own it, a corner sets one and passes to the next open face; unused fours fall. Where nothing is found the state is taken back.
 ghost use mathlib.Core.Path.{_≡_};
 ghost use mathlib.Core.Bool.{true, false};
-ghost use Prim.Native.Nat.{_+_, _*_, _<_, _≤_};
-ghost use lib.ListN.{length, getD};
+ghost use Prim.Native.Nat.{_+_, _<_};
+ghost use lib.ListN.{getD};
 ghost use Rattle.laws.specs.Laws.{fours-in};
 ghost use Rattle.laws.specs.Lists.{job-lists};
 ghost use Rattle.laws.specs.Check.{job};
-ghost use Rattle.fillings.specs.Codes.{Owns};
 ghost use Rattle.fillings.specs.Steps.{Ready};
 ghost use Rattle.trail.specs.Counts.{Counts};
 ghost use Rattle.trail.specs.State.{Living};
-ghost use Rattle.settling.specs.Prepared.{Prepared};
+ghost use Rattle.propagation.specs.Prepared.{Prepared};
 ghost use Rattle.extension.specs.Explored.{Explored, Explored-corner};
-use settling::place::place;
-use settling::settle::settle;
+use placing::place::place;
+use propagation::propagate::propagate;
 use shaving::shave::discard;
 use shaving::shave::shave;
+use trail::codes::owns;
 use trail::marks::undo;
 use trail::marks::unset;
 
@@ -28,20 +28,6 @@ pub struct Extension {
 
 // A subtree of so many faces is worth a look at every alive candidate before going on.
 pub(crate) const PATIENCE: u32 = 200;
-
-// Whether the candidate k has the outward face with the code c.
-pub(crate) fn owns(codes: &[u16], k: usize, c: usize) -> bool
-    requires { ⌜ (k < 1820) × (k * 4 + 4 ≤ length (now codes)) ⌝ }
-    ensures { λ r. ⌜ (r ≡ true → Owns (now (codes .entry)) k c) × (r ≡ false → Owns (now (codes .entry)) k c → ⊥) ⌝ }
-{
-    for i in 0..4 {
-        let d = codes[k * 4 + i] as usize;
-        if d == c {
-            return true;
-        }
-    }
-    false
-}
 
 // The sum, up to 1001.
 pub(crate) fn more(a: u32, b: u32) -> u32 {
@@ -78,10 +64,10 @@ pub fn face(
     trail: &mut [u16],
     top: usize,
 ) -> Extension
-    requires { ⌜ Prepared (now points) (now triangles) (now kept) (now table) (now rows) (now fours) (now codes) (now boundary) (now bound) m (now corners) (now piercing) (now head) (now next) × Ready (job (job-lists (now points) (now triangles) (now kept) (now table))) (fours-in m (now fours)) (now marks) × Living m (now codes) (now marks) (now owners) (now trail) top × Counts 2 m (now codes) (now marks) (now held) ⌝ }
+    requires { ⌜ Prepared (job-lists (now points) (now triangles) (now kept) (now table)) (now rows) (now fours) (now codes) (now boundary) (now bound) m (now corners) (now piercing) (now head) (now next) × Ready (job (job-lists (now points) (now triangles) (now kept) (now table))) (fours-in m (now fours)) (now marks) × Living m (now codes) (now marks) (now owners) (now trail) top × Counts 2 m (now codes) (now marks) (now held) ⌝ }
     ensures { λ r. ⌜ Explored (job (job-lists (now (points .entry)) (now (triangles .entry)) (now (kept .entry)) (now (table .entry)))) (fours-in m (now (fours .entry))) m (now (codes .entry)) (now (marks .entry)) (now (held .entry)) (now (trail .entry)) top (r .found) (now (marks .exit)) (now (owners .exit)) (now (held .exit)) (now (trail .exit)) (r .top) ⌝ }
 {
-    let z = settle(
+    let z = propagate(
         points,
         triangles,
         kept,
@@ -227,7 +213,7 @@ pub fn corner(
     trail: &mut [u16],
     top: usize,
 ) -> Extension
-    requires { ⌜ Prepared (now points) (now triangles) (now kept) (now table) (now rows) (now fours) (now codes) (now boundary) (now bound) m (now corners) (now piercing) (now head) (now next) × Ready (job (job-lists (now points) (now triangles) (now kept) (now table))) (fours-in m (now fours)) (now marks) × Living m (now codes) (now marks) (now owners) (now trail) top × Counts 2 m (now codes) (now marks) (now held) × (t < m) × (getD (now marks) t 0 ≡ 1) ⌝ }
+    requires { ⌜ Prepared (job-lists (now points) (now triangles) (now kept) (now table)) (now rows) (now fours) (now codes) (now boundary) (now bound) m (now corners) (now piercing) (now head) (now next) × Ready (job (job-lists (now points) (now triangles) (now kept) (now table))) (fours-in m (now fours)) (now marks) × Living m (now codes) (now marks) (now owners) (now trail) top × Counts 2 m (now codes) (now marks) (now held) × (t < m) × (getD (now marks) t 0 ≡ 1) ⌝ }
     ensures { λ r. ⌜ Explored-corner (job (job-lists (now (points .entry)) (now (triangles .entry)) (now (kept .entry)) (now (table .entry)))) (fours-in m (now (fours .entry))) m t (now (marks .entry)) (now (owners .entry)) (now (held .entry)) (now (trail .entry)) top (r .found) (now (marks .exit)) (now (owners .exit)) (now (held .exit)) (now (trail .exit)) ⌝ }
 {
     let end = place(

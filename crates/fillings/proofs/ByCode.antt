@@ -5,11 +5,9 @@ pub mod FaceTable
 pub mod BoundaryFlags
 pub mod OpenCodes
 pub mod Context
-pub mod RimFlags
-pub mod Thinning
+pub mod BoundaryCodes
 pub mod Choosing
 pub mod Companions
 pub mod CoverByLinks
-pub mod Settling
-pub mod Shaving
+pub mod Propagating
 pub mod Depth

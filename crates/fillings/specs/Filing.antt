@@ -24,8 +24,8 @@ put-faces k g xs =
     put-four k (face-code (tri (g .a) (g .c) (g .b))) (face-code (tri (g .a) (g .b) (g .d))) (face-code (tri (g .a) (g .d) (g .c))) (face-code (tri (g .b) (g .c) (g .d))) xs
 
 -- the tables after f: as they were where f is no candidate of quality q, and with f written at k where it is one
-pub data Considered (j : Job) (q : ℕ) (f : Four) (fours codes quals : List ℕ) (k : ℕ) : (fours2 codes2 quals2 : List ℕ) → ℕ → Type 0 where
-  passed : (candidate j f ≡ true → q ≤ quality (entry j f) → ⊥) → Considered j q f fours codes quals k fours codes quals k
+pub data Considered (j : Job) (q : ℕ) (f : Four) (fours codes qualities : List ℕ) (k : ℕ) : (fours2 codes2 qualities2 : List ℕ) → ℕ → Type 0 where
+  passed : (candidate j f ≡ true → q ≤ quality (entry j f) → ⊥) → Considered j q f fours codes qualities k fours codes qualities k
   filed :
       candidate j f ≡ true →
-      Considered j q f fours codes quals k (put-four k (f .a) (f .b) (f .c) (f .d) fours) (put-faces k (turned (j .points) f) codes) (set quals k (quality (entry j f))) (k + 1)
+      Considered j q f fours codes qualities k (put-four k (f .a) (f .b) (f .c) (f .d) fours) (put-faces k (turned (j .points) f) codes) (set qualities k (quality (entry j f))) (k + 1)

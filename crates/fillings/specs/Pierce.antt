@@ -1,5 +1,5 @@
 -- An edge that runs through a triangle from side to side: a test by signs of D alone. Assumes nothing: these are definitions.
-use mathlib.Core.Bool.{Bool, false, _&&_, _||_, cond}
+use mathlib.Core.Bool.{Bool, false, _&&_, _||_}
 use mathlib.Core.List.{List, [], _∷_}
 use Prim.Native.Nat.{ℕ}
 use Rattle.geometry.specs.Space.{Z, V3, point, det, above, zero-z}
@@ -32,8 +32,3 @@ pierces-four ps a b t =
 unfoldable pub pierced : List V3 → List Edge → Four → Bool
 pierced ps [] t = false
 pierced ps (e ∷ es) t = pierces-four ps (e .a) (e .b) t || pierced ps es t
-
--- the fours that none does
-unfoldable pub unpierced : List V3 → List Edge → List Four → List Four
-unpierced ps es [] = []
-unpierced ps es (t ∷ ts) = cond (pierced ps es t) (unpierced ps es ts) (t ∷ unpierced ps es ts)

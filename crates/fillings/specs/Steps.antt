@@ -4,10 +4,9 @@ use mathlib.Core.Bool.{true, false}
 use mathlib.Core.List.{List}
 use Prim.Native.Nat.{ℕ, _*_, _≤_}
 use lib.ListN.{length, getD}
-use lib.IntN.{ℤ}
 use Rattle.geometry.specs.declared.tetrahedron.Four.{Four}
 use Rattle.laws.specs.Laws.{Job, Tri, all-faces, fours-in}
-use Rattle.laws.specs.Lists.{job-lists}
+use Rattle.laws.specs.Lists.{Lists}
 use Rattle.laws.specs.Check.{job, job-refusal}
 use Rattle.laws.specs.inner.Members.{In}
 use Rattle.laws.specs.inner.FaceCodes.{face-code, flip-code, Proper}
@@ -16,13 +15,13 @@ use Rattle.fillings.specs.Marks.{Pool, marked, Fills, Reduced}
 use Rattle.fillings.specs.Codes.{Face-table, Owns, Bound-flags, open-code}
 
 -- a job that is not refused, a pool of its candidates as bytes, the numbers of their faces, and the boundary as flags by face number
-pub record Context (ps : List ℤ) (ts es : List ℕ) (qs : List ℤ) (fours codes bound : List ℕ) (m : ℕ) : Type 0 where
-  pub accepted : job-refusal (job-lists ps ts es qs) ≡ 0
+pub record Context (l : Lists) (fours codes bound : List ℕ) (m : ℕ) : Type 0 where
+  pub accepted : job-refusal l ≡ 0
   pub few : m ≤ 1820
   pub long : m * 4 ≤ length fours
-  pub pool : Pool (job (job-lists ps ts es qs)) (fours-in m fours)
-  pub faces : Face-table (job (job-lists ps ts es qs) .points) (fours-in m fours) codes
-  pub bounds : Bound-flags (job (job-lists ps ts es qs) .triangles) bound
+  pub pool : Pool (job l) (fours-in m fours)
+  pub faces : Face-table (job l .points) (fours-in m fours) codes
+  pub bounds : Bound-flags (job l .triangles) bound
   pub bound-long : length bound ≡ 4096
 
 -- marks from which a search may go on
@@ -36,8 +35,8 @@ pub record Open-at (j : Job) (S : List Four) (c : ℕ) : Type 0 where
   pub code : face-code face ≡ c
   pub still : open-face (j .triangles) (all-faces (j .points) S) face ≡ true
 
--- what settling says: 0 for hopeless, 1 for a filling, 2 for an open face
-pub record Settles (j : Job) (cs : List Four) (ms : List ℕ) (kind face : ℕ) (ns : List ℕ) : Type 0 where
+-- what propagating says: 0 for hopeless, 1 for a filling, 2 for an open face
+pub record Propagates (j : Job) (cs : List Four) (ms : List ℕ) (kind face : ℕ) (ns : List ℕ) : Type 0 where
   pub reduced : Reduced j cs ms ns
   pub hopeless : kind ≡ 0 → (F : List Four) → Fills j cs ns F → ⊥
   pub done : kind ≡ 1 → Fills j cs ns (marked 2 cs ns)

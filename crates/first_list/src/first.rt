@@ -1,25 +1,24 @@
 // The first list among the best: candidates are taken in order, each where some best filling holds it together with those taken before.
 ghost use mathlib.Core.Path.{_≡_};
-ghost use Prim.Native.Nat.{suc, _*_, _<_, _≤_};
+ghost use Prim.Native.Nat.{suc, _*_, _<_};
 ghost use lib.ListN.{length, getD};
 ghost use Rattle.laws.specs.Laws.{fours-in, Best};
 ghost use Rattle.laws.specs.Lists.{job-lists};
 ghost use Rattle.laws.specs.Check.{job};
 ghost use Rattle.fillings.specs.Marks.{marked, Fills};
 ghost use Rattle.fillings.specs.Steps.{Ready};
-ghost use Rattle.fillings.specs.Tables.{All-below, Highest};
+ghost use Rattle.fillings.specs.Tables.{Highest};
 ghost use Rattle.trail.specs.Counts.{Counts};
-ghost use Rattle.trail.specs.State.{Coded, Living};
-ghost use Rattle.settling.specs.Prepared.{Prepared};
-ghost use Rattle.first_list.specs.Passed.{Taken, Advanced, Stepped};
+ghost use Rattle.trail.specs.State.{Living};
+ghost use Rattle.propagation.specs.Prepared.{Prepared};
+ghost use Rattle.first_list.specs.Passed.{Taken, Stepped};
 use extension::extend::corner;
+use placing::advance::advance;
+use propagation::propagate::propagate;
 use pruning::prune::sweep;
-use settling::place::place;
-use settling::settle::settle;
-use thresholds::best::Attempt;
+use raising::raise::Attempt;
 use thresholds::threshold::begin;
 use trail::counts::count_owners;
-use trail::marks::drop;
 
 // Whether a candidate is taken, and a filling as marks.
 pub(crate) struct Decision {
@@ -27,7 +26,7 @@ pub(crate) struct Decision {
     pub mark: [u8; 1820],
 }
 
-// What a step of the first list leaves: the settled state's kind and trail, and a filling as marks.
+// What a step of the first list leaves: the propagated state's kind and trail, and a filling as marks.
 pub(crate) struct Passed {
     pub kind: usize,
     pub top: usize,
@@ -59,7 +58,7 @@ fn decide(
     trail: &mut [u16],
     top: usize,
 ) -> Decision
-    requires { ⌜ Prepared (now points) (now triangles) (now kept) (now table) (now rows) (now fours) (now codes) (now boundary) (now bound) m (now corners) (now piercing) (now head) (now next) × Ready (job (job-lists (now points) (now triangles) (now kept) (now table))) (fours-in m (now fours)) (now marks) × Living m (now codes) (now marks) (now owners) (now trail) top × Counts 2 m (now codes) (now marks) (now held) × (k < m) × (getD (now marks) k 0 ≡ 1) × Fills (job (job-lists (now points) (now triangles) (now kept) (now table))) (fours-in m (now fours)) (now marks) (marked 2 (fours-in m (now fours)) witness) ⌝ }
+    requires { ⌜ Prepared (job-lists (now points) (now triangles) (now kept) (now table)) (now rows) (now fours) (now codes) (now boundary) (now bound) m (now corners) (now piercing) (now head) (now next) × Ready (job (job-lists (now points) (now triangles) (now kept) (now table))) (fours-in m (now fours)) (now marks) × Living m (now codes) (now marks) (now owners) (now trail) top × Counts 2 m (now codes) (now marks) (now held) × (k < m) × (getD (now marks) k 0 ≡ 1) × Fills (job (job-lists (now points) (now triangles) (now kept) (now table))) (fours-in m (now fours)) (now marks) (marked 2 (fours-in m (now fours)) witness) ⌝ }
     ensures { λ r. ⌜ Taken (job (job-lists (now (points .entry)) (now (triangles .entry)) (now (kept .entry)) (now (table .entry)))) (fours-in m (now (fours .entry))) k (now (marks .entry)) (now (owners .entry)) (now (held .entry)) witness (r .taken) (r .mark) (now (marks .exit)) (now (owners .exit)) (now (held .exit)) (now (trail .exit)) ⌝ }
 {
     if witness[k] == 2 {
@@ -105,43 +104,7 @@ fn decide(
     Decision { taken: true, mark }
 }
 
-// Sets the alive candidate k where it is taken, drops it otherwise; how long the trail is then.
-fn advance(
-    codes: &[u16],
-    m: usize,
-    fours: &[u8],
-    corners: &[u16],
-    piercing: &[u16],
-    k: usize,
-    taken: bool,
-    marks: &mut [u8],
-    owners: &mut [u16],
-    held: &mut [u16],
-    trail: &mut [u16],
-    top: usize,
-) -> usize
-    requires { ⌜ Coded m (now codes) × All-below 16 (m * 4) (now fours) × (m ≤ length (now corners)) × (m * 16 ≤ length (now piercing)) × (k < m) × (getD (now marks) k 0 ≡ 1) × Living m (now codes) (now marks) (now owners) (now trail) top × Counts 2 m (now codes) (now marks) (now held) ⌝ }
-    ensures { λ e. ⌜ Advanced m (now (codes .entry)) (now (fours .entry)) (now (corners .entry)) (now (piercing .entry)) k taken (now (marks .entry)) (now (marks .exit)) (now (owners .exit)) (now (held .exit)) (now (trail .exit)) e ⌝ }
-{
-    if taken {
-        return place(
-            codes,
-            m,
-            fours,
-            corners,
-            piercing,
-            k,
-            marks,
-            owners,
-            held,
-            trail,
-            top,
-        );
-    }
-    drop(codes, m, k, marks, owners, trail, top)
-}
-
-// The candidate k decided, then set or dropped, and the state settled.
+// The candidate k decided, then set or dropped, and the state propagated.
 fn step(
     points: &[i32],
     triangles: &[u8],
@@ -166,8 +129,8 @@ fn step(
     trail: &mut [u16],
     top: usize,
 ) -> Passed
-    requires { ⌜ Prepared (now points) (now triangles) (now kept) (now table) (now rows) (now fours) (now codes) (now boundary) (now bound) m (now corners) (now piercing) (now head) (now next) × Ready (job (job-lists (now points) (now triangles) (now kept) (now table))) (fours-in m (now fours)) (now marks) × Living m (now codes) (now marks) (now owners) (now trail) top × Counts 2 m (now codes) (now marks) (now held) × (k < m) × (getD (now marks) k 0 ≡ 1) × Fills (job (job-lists (now points) (now triangles) (now kept) (now table))) (fours-in m (now fours)) (now marks) (marked 2 (fours-in m (now fours)) witness) ⌝ }
-    ensures { λ r. ⌜ Stepped (now (points .entry)) (now (triangles .entry)) (now (kept .entry)) (now (table .entry)) m (now (fours .entry)) (now (codes .entry)) (now (corners .entry)) (now (piercing .entry)) k (now (marks .entry)) (now (owners .entry)) (now (held .entry)) witness (r .mark) (r .kind) (now (marks .exit)) (now (owners .exit)) (now (held .exit)) (now (trail .exit)) (r .top) ⌝ }
+    requires { ⌜ Prepared (job-lists (now points) (now triangles) (now kept) (now table)) (now rows) (now fours) (now codes) (now boundary) (now bound) m (now corners) (now piercing) (now head) (now next) × Ready (job (job-lists (now points) (now triangles) (now kept) (now table))) (fours-in m (now fours)) (now marks) × Living m (now codes) (now marks) (now owners) (now trail) top × Counts 2 m (now codes) (now marks) (now held) × (k < m) × (getD (now marks) k 0 ≡ 1) × Fills (job (job-lists (now points) (now triangles) (now kept) (now table))) (fours-in m (now fours)) (now marks) (marked 2 (fours-in m (now fours)) witness) ⌝ }
+    ensures { λ r. ⌜ Stepped (job-lists (now (points .entry)) (now (triangles .entry)) (now (kept .entry)) (now (table .entry))) m (now (fours .entry)) (now (codes .entry)) (now (corners .entry)) (now (piercing .entry)) k (now (marks .entry)) (now (owners .entry)) (now (held .entry)) witness (r .mark) (r .kind) (now (marks .exit)) (now (owners .exit)) (now (held .exit)) (now (trail .exit)) (r .top) ⌝ }
 {
     let d = decide(
         points,
@@ -208,7 +171,7 @@ fn step(
         trail,
         top,
     );
-    let z = settle(
+    let z = propagate(
         points,
         triangles,
         kept,
@@ -255,18 +218,18 @@ pub fn first_list(
     head: &[u16],
     next: &[u16],
     watch: bool,
-    quals: &[u32],
+    qualities: &[u32],
     from: Attempt,
     owners: &mut [u16],
     held: &mut [u16],
     trail: &mut [u16],
 ) -> Attempt
-    requires { ⌜ Prepared (now points) (now triangles) (now kept) (now table) (now rows) (now fours) (now codes) (now boundary) (now bound) m (now corners) (now piercing) (now head) (now next) × Highest (now points) (now triangles) (now kept) (now table) (now fours) (now codes) (now quals) m (from .worst) (suc (from .worst)) (from .mark) × (length (now owners) ≡ 4096) × (length (now held) ≡ 4096) × (length (now trail) ≡ 1820) ⌝ }
+    requires { ⌜ Prepared (job-lists (now points) (now triangles) (now kept) (now table)) (now rows) (now fours) (now codes) (now boundary) (now bound) m (now corners) (now piercing) (now head) (now next) × Highest (job-lists (now points) (now triangles) (now kept) (now table)) (now fours) (now codes) (now qualities) m (from .worst) (suc (from .worst)) (from .mark) × (length (now owners) ≡ 4096) × (length (now held) ≡ 4096) × (length (now trail) ≡ 1820) ⌝ }
     ensures { λ r. ⌜ (r .worst ≡ from .worst) × Best (job (job-lists (now (points .entry)) (now (triangles .entry)) (now (kept .entry)) (now (table .entry)))) (marked 2 (fours-in m (now (fours .entry))) (r .mark)) ⌝ }
 {
     let mut w = from;
     let mut marks = [0u8; 1820];
-    begin(codes, quals, m, from.worst, &mut marks, owners, held);
+    begin(codes, qualities, m, from.worst, &mut marks, owners, held);
     let mut top = sweep(
         codes,
         bound,

@@ -1,9 +1,8 @@
 -- What pruning leaves of a state. Assumes nothing: these are definitions.
 use mathlib.Core.List.{List}
 use Prim.Native.Nat.{ℕ}
-use lib.IntN.{ℤ}
 use Rattle.laws.specs.Laws.{fours-in}
-use Rattle.laws.specs.Lists.{job-lists}
+use Rattle.laws.specs.Lists.{Lists}
 use Rattle.laws.specs.Check.{job}
 use Rattle.fillings.specs.Marks.{Reduced}
 use Rattle.fillings.specs.Steps.{Context}
@@ -14,5 +13,5 @@ use Rattle.trail.specs.State.{Trailed}
 pub record Pruned (m : ℕ) (codes bound held ms tr : List ℕ) (top : ℕ) (ns owners ur : List ℕ) (end : ℕ) : Type 0 where
   pub trailed : Trailed m codes ms tr top ns owners ur end
   pub reduced :
-      (ps : List ℤ) (ts es : List ℕ) (qs : List ℤ) (fours : List ℕ) → Context ps ts es qs fours codes bound m → Counts 2 m codes ms held →
-      Reduced (job (job-lists ps ts es qs)) (fours-in m fours) ms ns
+      (l : Lists) (fours : List ℕ) → Context l fours codes bound m → Counts 2 m codes ms held →
+      Reduced (job l) (fours-in m fours) ms ns

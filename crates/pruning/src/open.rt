@@ -3,18 +3,10 @@ ghost use mathlib.Core.Path.{_≡_};
 ghost use mathlib.Core.Bool.{true};
 ghost use Prim.Native.Nat.{_+_, _*_, _<_};
 ghost use lib.ListN.{length};
-ghost use Rattle.laws.specs.inner.FaceCodes.{flip-code};
 ghost use Rattle.fillings.specs.Codes.{open-code};
 ghost use Rattle.fillings.specs.Steps.{Stuck};
 ghost use Rattle.fillings.specs.Tables.{All-below};
-
-// The code of the reverse.
-pub fn flip(c: usize) -> usize
-    requires { ⌜ c < 4096 ⌝ }
-    ensures { λ r. ⌜ (r ≡ flip-code c) × (r < 4096) ⌝ }
-{
-    c / 256 * 256 + c % 16 * 16 + c / 16 % 16
-}
+use trail::codes::flip;
 
 // Whether the face with the code c is open: still to be owned.
 pub fn is_open(held: &[u16], bound: &[u8], c: usize) -> bool
@@ -39,7 +31,7 @@ pub fn is_open(held: &[u16], bound: &[u8], c: usize) -> bool
 }
 
 // Whether the candidate k has a face that is not open and whose reverse no alive candidate owns.
-pub fn is_stuck(codes: &[u16], bound: &[u8], held: &[u16], owners: &[u16], k: usize) -> bool
+pub(crate) fn is_stuck(codes: &[u16], bound: &[u8], held: &[u16], owners: &[u16], k: usize) -> bool
     requires { ⌜ (k < 1820) × All-below 4096 (k * 4 + 4) (now codes) × (length (now bound) ≡ 4096) × (length (now held) ≡ 4096) × (length (now owners) ≡ 4096) ⌝ }
     ensures { λ r. ⌜ (r ≡ true → Stuck (now (codes .entry)) (now (bound .entry)) (now (held .entry)) (now (owners .entry)) k) ⌝ }
 {

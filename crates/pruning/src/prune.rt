@@ -7,9 +7,9 @@ ghost use Rattle.laws.specs.inner.FaceCodes.{flip-code};
 ghost use Rattle.fillings.specs.Codes.{open-code};
 ghost use Rattle.trail.specs.State.{Coded, Living, Trailed};
 ghost use Rattle.pruning.specs.Pruned.{Pruned};
-use crate::open::flip;
 use crate::open::is_open;
 use crate::open::is_stuck;
+use trail::codes::flip;
 use trail::marks::drop;
 
 // So many owners of a face are looked at; it has 13 at most.
@@ -128,7 +128,7 @@ pub(crate) fn look_around(
 }
 
 // Looks behind the faces of what stands on the trail from the place `from` on, what falls meanwhile included.
-pub fn propagate(
+pub fn prune_from(
     codes: &[u16],
     bound: &[u8],
     m: usize,
@@ -210,7 +210,7 @@ pub fn sweep(
     ensures { λ e. ⌜ Pruned m (now (codes .entry)) (now (bound .entry)) (now (held .entry)) (now (marks .entry)) (now (trail .entry)) top (now (marks .exit)) (now (owners .exit)) (now (trail .exit)) e ⌝ }
 {
     let end = drop_stuck(codes, bound, m, held, marks, owners, trail, top);
-    propagate(
+    prune_from(
         codes,
         bound,
         m,
@@ -229,20 +229,20 @@ pub fn sweep(
 pub fn drop_below(
     codes: &[u16],
     m: usize,
-    quals: &[u32],
+    qualities: &[u32],
     q: u32,
     marks: &mut [u8],
     owners: &mut [u16],
     trail: &mut [u16],
     top: usize,
 ) -> usize
-    requires { ⌜ Coded m (now codes) × (m ≤ length (now quals)) × Living m (now codes) (now marks) (now owners) (now trail) top ⌝ }
+    requires { ⌜ Coded m (now codes) × (m ≤ length (now qualities)) × Living m (now codes) (now marks) (now owners) (now trail) top ⌝ }
     ensures { λ e. ⌜ Trailed m (now (codes .entry)) (now (marks .entry)) (now (trail .entry)) top (now (marks .exit)) (now (owners .exit)) (now (trail .exit)) e ⌝ }
 {
     let mut end = top;
     for k in 0..m {
         if marks[k] == 1 {
-            if quals[k] < q {
+            if qualities[k] < q {
                 end = drop(codes, m, k, marks, owners, trail, end);
             }
         }

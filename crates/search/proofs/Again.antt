@@ -1,4 +1,4 @@
--- A second search, from 1 on, where one from a guess on found nothing. Assumes nothing.
+-- A second search, from 1 on, where one from an upper bound on found nothing. Assumes nothing.
 use mathlib.Core.Path.{_≡_, sym, subst}
 use mathlib.Core.List.{List}
 use Prim.Native.Nat.{ℕ, _≤_}
@@ -9,9 +9,9 @@ use Rattle.search.specs.inner.Threshold.{Searched-from}
 use Rattle.search.specs.declared.search.Found.{Found}
 use Rattle.search.proofs.FromThreshold.{from-one}
 
--- the guess was 1
-pub from-guess-1 : {j : Job} {low : ℕ} {r : Found} {a b : List ℕ} → low ≡ 1 → Searched-from j low r a b → Searched j r a b
-from-guess-1 {j} {low} {r} {a} {b} e s = from-one (subst (λ (n : ℕ). Searched-from j n r a b) e s)
+-- the bound was 1
+pub from-bound-1 : {j : Job} {low : ℕ} {r : Found} {a b : List ℕ} → low ≡ 1 → Searched-from j low r a b → Searched j r a b
+from-bound-1 {j} {low} {r} {a} {b} e s = from-one (subst (λ (n : ℕ). Searched-from j n r a b) e s)
 
 -- the first search left the buffer as it was
 pub from-one-again : {j : Job} {r : Found} {a b c : List ℕ} → b ≡ a → Searched-from j 1 r b c → Searched j r a c

@@ -42,11 +42,11 @@ number-short l a e h =
     let d : 14 ≡ x = ap (λ (t : Bool). cond t 14 0) (sym (lt-ltb (length a) 7280 h)) in d ∙ sym (or-else-passed (job-refusal l) x e)
 
 pub says-short :
-    (l : Lists) (a : List ℕ) → job-refusal l ≡ 0 → length a < 7280 →
+    (l : Lists) (n : ℕ) (a : List ℕ) → n ≡ job-refusal l → n ≡ 0 → length a < 7280 →
     Search-says l (record { number = 14; count = 0; worst = 0 }) a a
 unfolding Search-says
-says-short l a e h =
-    subst (λ (k : ℕ). Search-as k (job l) (record { number = 14; count = 0; worst = 0 }) a a) (number-short l a e h) (as-number 14 (job l) a (λ z. omega arith))
+says-short l n a d e h =
+    subst (λ (k : ℕ). Search-as k (job l) (record { number = 14; count = 0; worst = 0 }) a a) (number-short l a (sym d ∙ e) h) (as-number 14 (job l) a (λ z. omega arith))
 
 number-searched : (l : Lists) (a : List ℕ) → job-refusal l ≡ 0 → 7280 ≤ length a → 0 ≡ or-else (job-refusal l) (cond (ltb (length a) 7280) 14 0)
 number-searched l a e h =
@@ -54,10 +54,10 @@ number-searched l a e h =
     let d : 0 ≡ x = ap (λ (t : Bool). cond t 14 0) (sym (le-ltb (length a) 7280 h)) in d ∙ sym (or-else-passed (job-refusal l) x e)
 
 pub says-searched :
-    (l : Lists) (r : Found) (a b : List ℕ) → job-refusal l ≡ 0 → 7280 ≤ length a → Searched (job l) r a b →
+    (l : Lists) (n : ℕ) (r : Found) (a b : List ℕ) → n ≡ job-refusal l → n ≡ 0 → 7280 ≤ length a → Searched (job l) r a b →
     Search-says l r a b
 unfolding Search-says Search-as
-says-searched l r a b e h s = subst (λ (k : ℕ). Search-as k (job l) r a b) (number-searched l a e h) s
+says-searched l n r a b d e h s = subst (λ (k : ℕ). Search-as k (job l) r a b) (number-searched l a (sym d ∙ e) h) s
 
 -- and back
 pub searched-of :

@@ -3,12 +3,11 @@ use mathlib.Core.Path.{_≡_, refl, subst}
 use mathlib.Core.Bool.{Bool, true, false}
 use mathlib.Core.List.{List, []}
 use Prim.Native.Nat.{ℕ, _≤_, _<_}
-use lib.IntN.{ℤ}
 use native.Mathlib.Decide.{ℕ-discrete}
 use native.Mathlib.Omega.{arith}
 use Rattle.geometry.specs.declared.tetrahedron.Four.{Four}
 use Rattle.laws.specs.Laws.{Job, fours-in, lawful, worst}
-use Rattle.laws.specs.Lists.{Lists, job-lists}
+use Rattle.laws.specs.Lists.{Lists}
 use Rattle.laws.specs.Check.{job, job-refusal}
 use Rattle.laws.specs.Promise.{Best-there}
 use Rattle.laws.proofs.Choice.Promises.{best-there}
@@ -19,7 +18,7 @@ use Rattle.search.specs.inner.Threshold.{Under, Searched-from}
 use Rattle.search.specs.declared.search.Found.{Found}
 use Rattle.fillings.proofs.Parts.Worst.{worst-at-most}
 use Rattle.search.proofs.Searched.{searched-none}
-use Rattle.thresholds.proofs.Trying.Thresholds.{whole-above}
+use Rattle.raising.proofs.Raising.Thresholds.{whole-above}
 
 pub under-all : (j : Job) → Under j 1000001
 under-all j = record { each = λ fs l. let h = worst-at-most j fs in omega arith }
@@ -48,9 +47,9 @@ from-one {j} {r} {a} {b} s = go (ℕ-discrete (r .number) 0)
 
 -- ---- the first filling found at the threshold
 pub attempt-highest :
-    {ps : List ℤ} {ts es : List ℕ} {qs : List ℤ} {q top : ℕ} {found : Bool} {fours codes quals : List ℕ} {m w : ℕ} {ms : List ℕ} → 0 < q → top ≤ 1000001 → Under (job (job-lists ps ts es qs)) top →
-    found ≡ true → Attempted ps ts es qs q found fours codes quals m w ms → Highest ps ts es qs fours codes quals m w top ms
-attempt-highest {ps} {ts} {es} {qs} {top = top} {fours = fours} {m = m} {ms = ms} p s u y a =
+    {L : Lists} {q top : ℕ} {found : Bool} {fours codes qualities : List ℕ} {m w : ℕ} {ms : List ℕ} → 0 < q → top ≤ 1000001 → Under (job L) top →
+    found ≡ true → Attempted L q found fours codes qualities m w ms → Highest L fours codes qualities m w top ms
+attempt-highest {L} {top = top} {fours = fours} {m = m} {ms = ms} p s u y a =
     let k = a .witness y in
     let l = a .enough y in
     record {
@@ -64,6 +63,6 @@ attempt-highest {ps} {ts} {es} {qs} {top = top} {fours = fours} {m = m} {ms = ms
     }
 
 pub attempt-under :
-    {ps : List ℤ} {ts es : List ℕ} {qs : List ℤ} {q : ℕ} {found : Bool} {fours codes quals : List ℕ} {m w : ℕ} {ms : List ℕ} → found ≡ false →
-    Attempted ps ts es qs q found fours codes quals m w ms → Under (job (job-lists ps ts es qs)) q
+    {L : Lists} {q : ℕ} {found : Bool} {fours codes qualities : List ℕ} {m w : ℕ} {ms : List ℕ} → found ≡ false →
+    Attempted L q found fours codes qualities m w ms → Under (job L) q
 attempt-under n a = record { each = a .none n }

@@ -1,30 +1,16 @@
 -- What the search promises, of the best filling and of none. Assumes nothing.
 use mathlib.Core.Path.{_≡_, subst}
-use mathlib.Core.Bool.{Bool, true, false}
-use mathlib.Core.Logic.{_⊎_, inl, inr}
 use mathlib.Core.List.{List}
-use Prim.Native.Nat.{ℕ, suc, _≤_, _<_}
-use native.Mathlib.Omega.{arith}
-use lib.ListN.{length, getD}
+use Prim.Native.Nat.{ℕ}
+use lib.ListN.{length}
 use Rattle.geometry.specs.declared.tetrahedron.Four.{Four}
-use Rattle.laws.specs.Laws.{Job, entry, quality, Tri, all-faces, worst, Best, bytes}
+use Rattle.laws.specs.Laws.{Job, worst, Best, bytes}
 use Rattle.laws.specs.Promise.{Best-alone}
-use Rattle.laws.specs.inner.Members.{Any, In}
 use Rattle.laws.proofs.Basics.Tests.{contradiction}
-use Rattle.laws.proofs.Basics.Lists.{any-of-member}
 use Rattle.laws.proofs.Choice.Promises.{best-alone}
 use Rattle.search.specs.Entry.{in-front, says, Searched}
 use Rattle.search.specs.declared.search.Found.{Found}
-use Rattle.fillings.specs.Part.{open-face}
-use Rattle.fillings.specs.Marks.{nth, Pool, Covers, marked, Fills, Started, Extended}
-use Rattle.fillings.proofs.Parts.Boundary.{Boundary}
-use Rattle.fillings.proofs.Parts.Worst.{worst-equals}
-use Rattle.fillings.proofs.Parts.NewOwners.{closed-of-none-open, open-face-of}
-use Rattle.fillings.proofs.Choice.FirstList.{first-best, first-moved, first-start, first-worth, only-witness-closed, only-witness-passed}
-use Rattle.fillings.proofs.Choice.Bisection.{Bounds, bounds-end, bounds-found, bounds-none, bounds-none-lawful}
-use Rattle.fillings.proofs.ByNumber.Numbers.{marked-number, number-marked}
-use Rattle.fillings.proofs.ByNumber.Start.{started-from, started-into}
-use Rattle.fillings.proofs.ByNumber.FirstByNumber.{First-marks}
+use Rattle.fillings.proofs.Choice.Bisection.{Bounds, bounds-none-lawful}
 
 pub searched-best :
     {j : Job} {r : Found} {N : List Four} {a b : List ℕ} → Best j N → says 0 (length N) (worst j N) r → b ≡ in-front (bytes N) a → Searched j r a b

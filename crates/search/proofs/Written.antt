@@ -1,29 +1,20 @@
 -- The best filling, written. Assumes nothing.
-use mathlib.Core.Path.{_≡_, refl, sym, subst, ap, _∙_}
+use mathlib.Core.Path.{_≡_, refl, subst}
 use mathlib.Core.Bool.{Bool, true, false, cond}
 use mathlib.Core.List.{List, [], _∷_}
-use Prim.Native.Nat.{ℕ, suc, _≤_, _<_}
-use native.Mathlib.Nat.{le-refl}
+use Prim.Native.Nat.{ℕ, suc, _≤_}
 use native.Mathlib.Omega.{arith}
 use lib.Dec.{eqb}
 use lib.ListN.{length, getD}
-use lib.IntN.{ℤ}
 use Rattle.geometry.specs.declared.tetrahedron.Four.{Four}
-use Rattle.laws.specs.Laws.{entry, quality, fours-in, lawful, worst, Best, bytes}
-use Rattle.laws.specs.Lists.{job-lists}
-use Rattle.laws.specs.Check.{job, job-refusal}
-use Rattle.laws.specs.inner.Members.{In}
-use Rattle.laws.proofs.Basics.Tests.{contradiction}
+use Rattle.laws.specs.Laws.{fours-in, worst, Best, bytes}
+use Rattle.laws.specs.Lists.{Lists}
+use Rattle.laws.specs.Check.{job}
 use Rattle.laws.proofs.Order.Bytes.{fours-in-length}
-use Rattle.fillings.specs.Marks.{Covers, marked, marked-from, Reduced, Extended}
-use Rattle.fillings.specs.Tables.{Filed, Whole, Alive-from, Between, Attempted, Highest, Least-set}
+use Rattle.fillings.specs.Marks.{marked, marked-from}
+use Rattle.fillings.specs.Tables.{Highest}
 use Rattle.search.specs.Entry.{in-front, says, Searched}
-use Rattle.fillings.proofs.Parts.Boundary.{boundary}
-use Rattle.fillings.proofs.Choice.Bisection.{Bounds, bounds-gap}
-use Rattle.fillings.proofs.ByNumber.Numbers.{member-number}
-use Rattle.fillings.proofs.ByNumber.Compact.{covers-alive}
 use Rattle.search.proofs.Searched.{searched-best}
-use Rattle.thresholds.proofs.Trying.Thresholds.{alive-started, boundary-some, found-from, least-worst, none-from, quality-small, whole-above}
 
 marked-from-few : (v k : ℕ) (cs : List Four) (ms : List ℕ) → length (marked-from v k cs ms) ≤ length cs
 unfolding marked-from
@@ -39,20 +30,20 @@ unfolding marked
 marked-few v m fours ms = subst (λ (n : ℕ). length (marked-from v 0 (fours-in m fours) ms) ≤ n) (fours-in-length m fours) (marked-from-few v 0 (fours-in m fours) ms)
 
 pub best-written :
-    {ps : List ℤ} {ts es : List ℕ} {qs : List ℤ} {fours codes quals : List ℕ} {m w n : ℕ} {ms bs cs : List ℕ} (ns : List ℕ) → Highest ps ts es qs fours codes quals m w (suc w) ms →
-    Best (job (job-lists ps ts es qs)) (marked 2 (fours-in m fours) ns) → n ≡ length (marked 2 (fours-in m fours) ns) → cs ≡ in-front (bytes (marked 2 (fours-in m fours) ns)) bs →
-    Searched (job (job-lists ps ts es qs)) (record { number = 0; count = n; worst = w }) bs cs
+    {L : Lists} {fours codes qualities : List ℕ} {m w n : ℕ} {ms bs cs : List ℕ} (ns : List ℕ) → Highest L fours codes qualities m w (suc w) ms →
+    Best (job L) (marked 2 (fours-in m fours) ns) → n ≡ length (marked 2 (fours-in m fours) ns) → cs ≡ in-front (bytes (marked 2 (fours-in m fours) ns)) bs →
+    Searched (job L) (record { number = 0; count = n; worst = w }) bs cs
 unfolding says
-best-written {ps} {ts} {es} {qs} {fours} {m = m} {w = w} {ms = ms} ns h b e d =
+best-written {L} {fours} {m = m} {w = w} {ms = ms} ns h b e d =
     let S = marked 2 (fours-in m fours) ns in
     let u = h .reached S (b .keeps) in
     let l = b .least (marked 2 (fours-in m fours) ms) (h .keeps) .0 in
     let g = h .worth in
-    let k : w ≡ worst (job (job-lists ps ts es qs)) S = omega arith in searched-best b (refl, e, k) d
+    let k : w ≡ worst (job L) S = omega arith in searched-best b (refl, e, k) d
 
 -- the first list, written
 pub first-written :
-    {ps : List ℤ} {ts es : List ℕ} {qs : List ℤ} {fours codes quals : List ℕ} {m w v n : ℕ} {ms bs cs : List ℕ} (ns : List ℕ) → Highest ps ts es qs fours codes quals m w (suc w) ms → v ≡ w →
-    Best (job (job-lists ps ts es qs)) (marked 2 (fours-in m fours) ns) → n ≡ length (marked 2 (fours-in m fours) ns) → cs ≡ in-front (bytes (marked 2 (fours-in m fours) ns)) bs →
-    Searched (job (job-lists ps ts es qs)) (record { number = 0; count = n; worst = v }) bs cs
+    {L : Lists} {fours codes qualities : List ℕ} {m w v n : ℕ} {ms bs cs : List ℕ} (ns : List ℕ) → Highest L fours codes qualities m w (suc w) ms → v ≡ w →
+    Best (job L) (marked 2 (fours-in m fours) ns) → n ≡ length (marked 2 (fours-in m fours) ns) → cs ≡ in-front (bytes (marked 2 (fours-in m fours) ns)) bs →
+    Searched (job L) (record { number = 0; count = n; worst = v }) bs cs
 first-written ns h e b l d = rw e (best-written ns h b l d)

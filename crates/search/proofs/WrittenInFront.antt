@@ -1,17 +1,14 @@
 -- The set candidates written in front of what was there, in order. Assumes nothing.
 use mathlib.Core.Path.{_≡_, refl, sym, ap, _∙_}
-use mathlib.Core.Bool.{Bool, true, false, cond}
-use mathlib.Core.List.{List, [], _∷_, _++_, append-nil}
+use mathlib.Core.List.{List, [], _∷_, _++_}
 use Prim.Native.Nat.{ℕ, suc, _+_, _*_, _≤_}
 use native.Mathlib.Omega.{arith}
-use borrow.Author.Tests.{eq-eqb, ne-eqb}
-use lib.Dec.{eqb}
 use lib.ListN.{length, getD, drop, length-append, length-drop}
 use lib.Seq.{sets, sets-eq, take-at, drop-append-add, drop-drop}
 use Rattle.geometry.specs.Space.{four}
 use Rattle.geometry.specs.declared.tetrahedron.Four.{Four}
 use Rattle.laws.specs.Laws.{bytes, fours-in}
-use Rattle.laws.proofs.Order.Bytes.{length-bytes, bytes-append, fours-in-length}
+use Rattle.laws.proofs.Order.Bytes.{length-bytes, bytes-append}
 use Rattle.fillings.specs.Marks.{marked-from, marked}
 use Rattle.search.specs.Entry.{in-front}
 use Rattle.fillings.specs.Filing.{put-four, copied}

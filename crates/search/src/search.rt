@@ -8,26 +8,24 @@ ghost use Rattle.laws.specs.Lists.{job-lists};
 ghost use Rattle.laws.specs.Check.{job, job-refusal};
 ghost use Rattle.fillings.specs.Marks.{marked};
 ghost use Rattle.fillings.specs.Codes.{Bound-flags};
-ghost use Rattle.fillings.specs.Tables.{All-below, Rim, Whole, Highest};
+ghost use Rattle.fillings.specs.Tables.{Boundary-codes, Whole, Highest};
 ghost use Rattle.signs.specs.Rows.{Rows};
-ghost use Rattle.trail.specs.State.{Coded};
 ghost use Rattle.search.specs.Entry.{in-front, Searched, Search-says};
-ghost use Rattle.settling.specs.Prepared.{Prepared};
+ghost use Rattle.propagation.specs.Prepared.{Prepared};
 ghost use Rattle.search.specs.inner.Threshold.{Under, Searched-from};
 use candidates::boundary::boundary_codes;
 use candidates::boundary::named;
-use candidates::pairs::chain;
 use candidates::pool::gather;
 use candidates::pool::put_four;
 use checker::check::check_job;
 use first_list::first::first_list;
+use raising::raise::Attempt;
+use raising::raise::prepare;
+use raising::raise::raise;
+use raising::raise::reduce;
+use raising::raise::try_threshold;
 use signs::rows::fill_rows;
-use thresholds::best::Attempt;
-use thresholds::best::climb;
-use thresholds::best::prepare;
-use thresholds::best::reduce;
-use thresholds::best::try_threshold;
-use thresholds::threshold::guess;
+use thresholds::threshold::opening;
 
 // What the search answers: 0 and the filling's count and worst quality, or the number of a refusal and zeros.
 #[repr(C)]
@@ -38,7 +36,7 @@ pub struct Found {
 }
 
 // Writes the set candidates' bytes in order; how many there are.
-pub fn write_filling(fours: &[u8], m: usize, mark: [u8; 1820], answer: &mut [u8]) -> usize
+pub(crate) fn write_filling(fours: &[u8], m: usize, mark: [u8; 1820], answer: &mut [u8]) -> usize
     requires { ⌜ (m ≤ 1820) × (m * 4 ≤ length (now fours)) × (7280 ≤ length (now answer)) ⌝ }
     ensures { λ r. ⌜ (r ≡ length (marked 2 (fours-in m (now (fours .entry))) mark)) × (now (answer .exit) ≡ in-front (bytes (marked 2 (fours-in m (now (fours .entry))) mark)) (now (answer .entry))) ⌝ }
 {
@@ -77,7 +75,7 @@ pub(crate) fn finish(
     head: &[u16],
     next: &[u16],
     watch: bool,
-    quals: &[u32],
+    qualities: &[u32],
     from: Attempt,
     top: u32,
     owners: &mut [u16],
@@ -85,10 +83,10 @@ pub(crate) fn finish(
     trail: &mut [u16],
     answer: &mut [u8],
 ) -> Found
-    requires { ⌜ Prepared (now points) (now triangles) (now kept) (now table) (now rows) (now fours) (now codes) (now boundary) (now bound) m (now corners) (now piercing) (now head) (now next) × Highest (now points) (now triangles) (now kept) (now table) (now fours) (now codes) (now quals) m (from .worst) top (from .mark) × (length (now owners) ≡ 4096) × (length (now held) ≡ 4096) × (length (now trail) ≡ 1820) × (7280 ≤ length (now answer)) ⌝ }
+    requires { ⌜ Prepared (job-lists (now points) (now triangles) (now kept) (now table)) (now rows) (now fours) (now codes) (now boundary) (now bound) m (now corners) (now piercing) (now head) (now next) × Highest (job-lists (now points) (now triangles) (now kept) (now table)) (now fours) (now codes) (now qualities) m (from .worst) top (from .mark) × (length (now owners) ≡ 4096) × (length (now held) ≡ 4096) × (length (now trail) ≡ 1820) × (7280 ≤ length (now answer)) ⌝ }
     ensures { λ r. ⌜ Searched (job (job-lists (now (points .entry)) (now (triangles .entry)) (now (kept .entry)) (now (table .entry)))) r (now (answer .entry)) (now (answer .exit)) ⌝ }
 {
-    let w = climb(
+    let w = raise(
         points,
         triangles,
         kept,
@@ -104,7 +102,7 @@ pub(crate) fn finish(
         head,
         next,
         watch,
-        quals,
+        qualities,
         from,
         top,
         owners,
@@ -127,7 +125,7 @@ pub(crate) fn finish(
         head,
         next,
         watch,
-        quals,
+        qualities,
         w,
         owners,
         held,
@@ -140,45 +138,6 @@ pub(crate) fn finish(
         count: count as u32,
         worst: f.worst,
     }
-}
-
-// A threshold to begin with, from 1 on; nothing rests on it.
-pub(crate) fn opening(
-    codes: &[u16],
-    quals: &[u32],
-    m: usize,
-    boundary: &[u16],
-    n: usize,
-    bound: &[u8],
-) -> u32
-    requires { ⌜ Coded m (now codes) × (m ≤ length (now quals)) × All-below 4096 n (now boundary) × (length (now bound) ≡ 4096) ⌝ }
-    ensures { λ r. ⌜ (0 < r) × (r ≤ 1000000) ⌝ }
-{
-    let mut head = [0u16; 4096];
-    let mut next = [0u16; 7280];
-    chain(codes, m, &mut head, &mut next);
-    let mut marks = [0u8; 1820];
-    let mut owners = [0u16; 4096];
-    let mut held = [0u16; 4096];
-    let mut trail = [0u16; 1820];
-    let q = guess(
-        codes,
-        quals,
-        m,
-        boundary,
-        n,
-        bound,
-        &head,
-        &next,
-        &mut marks,
-        &mut owners,
-        &mut held,
-        &mut trail,
-    );
-    if q == 0 {
-        return 1;
-    }
-    q
 }
 
 // The best filling of a prepared pool, where there is one of the worst quality `low` or a better one, and none of `top`; 15 otherwise.
@@ -198,12 +157,12 @@ pub(crate) fn search_prepared(
     head: &[u16],
     next: &[u16],
     watch: bool,
-    quals: &[u32],
+    qualities: &[u32],
     low: u32,
     top: u32,
     answer: &mut [u8],
 ) -> Found
-    requires { ⌜ Prepared (now points) (now triangles) (now kept) (now table) (now rows) (now fours) (now codes) (now boundary) (now bound) m (now corners) (now piercing) (now head) (now next) × Whole (now points) (now triangles) (now kept) (now table) low (now fours) (now codes) (now quals) m × (0 < low) × (low ≤ 1000000) × (top ≤ 1000001) × Under (job (job-lists (now points) (now triangles) (now kept) (now table))) top × (7280 ≤ length (now answer)) ⌝ }
+    requires { ⌜ Prepared (job-lists (now points) (now triangles) (now kept) (now table)) (now rows) (now fours) (now codes) (now boundary) (now bound) m (now corners) (now piercing) (now head) (now next) × Whole (job-lists (now points) (now triangles) (now kept) (now table)) low (now fours) (now codes) (now qualities) m × (0 < low) × (low ≤ 1000000) × (top ≤ 1000001) × Under (job (job-lists (now points) (now triangles) (now kept) (now table))) top × (7280 ≤ length (now answer)) ⌝ }
     ensures { λ r. ⌜ Searched-from (job (job-lists (now (points .entry)) (now (triangles .entry)) (now (kept .entry)) (now (table .entry)))) low r (now (answer .entry)) (now (answer .exit)) ⌝ }
 {
     let mut owners = [0u16; 4096];
@@ -225,7 +184,7 @@ pub(crate) fn search_prepared(
         head,
         next,
         watch,
-        quals,
+        qualities,
         low,
         &mut owners,
         &mut held,
@@ -254,7 +213,7 @@ pub(crate) fn search_prepared(
         head,
         next,
         watch,
-        quals,
+        qualities,
         a,
         top,
         &mut owners,
@@ -275,14 +234,14 @@ pub(crate) fn search_pool(
     bound: &[u8],
     fours: &[u8],
     codes: &[u16],
-    quals: &[u32],
+    qualities: &[u32],
     m: usize,
     watch: bool,
     low: u32,
     top: u32,
     answer: &mut [u8],
 ) -> Found
-    requires { ⌜ (job-refusal (job-lists (now points) (now triangles) (now kept) (now table)) ≡ 0) × Rim (now triangles) (now boundary) × Bound-flags ((job (job-lists (now points) (now triangles) (now kept) (now table))) .triangles) (now bound) × (length (now bound) ≡ 4096) × Rows (points-in (now points)) (now rows) × Whole (now points) (now triangles) (now kept) (now table) low (now fours) (now codes) (now quals) m × (0 < low) × (low ≤ 1000000) × (top ≤ 1000001) × Under (job (job-lists (now points) (now triangles) (now kept) (now table))) top × (7280 ≤ length (now answer)) ⌝ }
+    requires { ⌜ (job-refusal (job-lists (now points) (now triangles) (now kept) (now table)) ≡ 0) × Boundary-codes (now triangles) (now boundary) × Bound-flags ((job (job-lists (now points) (now triangles) (now kept) (now table))) .triangles) (now bound) × (length (now bound) ≡ 4096) × Rows (points-in (now points)) (now rows) × Whole (job-lists (now points) (now triangles) (now kept) (now table)) low (now fours) (now codes) (now qualities) m × (0 < low) × (low ≤ 1000000) × (top ≤ 1000001) × Under (job (job-lists (now points) (now triangles) (now kept) (now table))) top × (7280 ≤ length (now answer)) ⌝ }
     ensures { λ r. ⌜ Searched-from (job (job-lists (now (points .entry)) (now (triangles .entry)) (now (kept .entry)) (now (table .entry)))) low r (now (answer .entry)) (now (answer .exit)) ⌝ }
 {
     let mut corners = [0u16; 1820];
@@ -321,7 +280,7 @@ pub(crate) fn search_pool(
         &head,
         &next,
         watch,
-        quals,
+        qualities,
         low,
         top,
         answer,
@@ -339,19 +298,19 @@ pub(crate) fn search_from(
     bound: &[u8],
     fours: &[u8],
     codes: &[u16],
-    quals: &[u32],
+    qualities: &[u32],
     m: usize,
     watch: bool,
     low: u32,
     top: u32,
     answer: &mut [u8],
 ) -> Found
-    requires { ⌜ (job-refusal (job-lists (now points) (now triangles) (now kept) (now table)) ≡ 0) × Rim (now triangles) (now boundary) × Bound-flags ((job (job-lists (now points) (now triangles) (now kept) (now table))) .triangles) (now bound) × (length (now bound) ≡ 4096) × Rows (points-in (now points)) (now rows) × Whole (now points) (now triangles) (now kept) (now table) 1 (now fours) (now codes) (now quals) m × (0 < low) × (low ≤ 1000000) × (top ≤ 1000001) × Under (job (job-lists (now points) (now triangles) (now kept) (now table))) top × (7280 ≤ length (now answer)) ⌝ }
+    requires { ⌜ (job-refusal (job-lists (now points) (now triangles) (now kept) (now table)) ≡ 0) × Boundary-codes (now triangles) (now boundary) × Bound-flags ((job (job-lists (now points) (now triangles) (now kept) (now table))) .triangles) (now bound) × (length (now bound) ≡ 4096) × Rows (points-in (now points)) (now rows) × Whole (job-lists (now points) (now triangles) (now kept) (now table)) 1 (now fours) (now codes) (now qualities) m × (0 < low) × (low ≤ 1000000) × (top ≤ 1000001) × Under (job (job-lists (now points) (now triangles) (now kept) (now table))) top × (7280 ≤ length (now answer)) ⌝ }
     ensures { λ r. ⌜ Searched-from (job (job-lists (now (points .entry)) (now (triangles .entry)) (now (kept .entry)) (now (table .entry)))) low r (now (answer .entry)) (now (answer .exit)) ⌝ }
 {
     let mut fours2 = [0u8; 7280];
     let mut codes2 = [0u16; 7280];
-    let mut quals2 = [0u32; 1820];
+    let mut qualities2 = [0u32; 1820];
     let c = reduce(
         points,
         triangles,
@@ -361,11 +320,11 @@ pub(crate) fn search_from(
         low,
         fours,
         codes,
-        quals,
+        qualities,
         m,
         &mut fours2,
         &mut codes2,
-        &mut quals2,
+        &mut qualities2,
     );
     search_pool(
         points,
@@ -377,7 +336,7 @@ pub(crate) fn search_from(
         bound,
         &fours2,
         &codes2,
-        &quals2,
+        &qualities2,
         c,
         watch,
         low,
@@ -386,7 +345,7 @@ pub(crate) fn search_from(
     )
 }
 
-// The best filling from all candidates: from a guess on, and from 1 on where that finds nothing.
+// The best filling from all candidates: from an upper bound on, and from 1 on where that finds nothing.
 pub(crate) fn search_candidates(
     points: &[i32],
     triangles: &[u8],
@@ -397,15 +356,15 @@ pub(crate) fn search_candidates(
     bound: &[u8],
     fours: &[u8],
     codes: &[u16],
-    quals: &[u32],
+    qualities: &[u32],
     m: usize,
     answer: &mut [u8],
 ) -> Found
-    requires { ⌜ (job-refusal (job-lists (now points) (now triangles) (now kept) (now table)) ≡ 0) × Rim (now triangles) (now boundary) × Bound-flags ((job (job-lists (now points) (now triangles) (now kept) (now table))) .triangles) (now bound) × (length (now bound) ≡ 4096) × Rows (points-in (now points)) (now rows) × Whole (now points) (now triangles) (now kept) (now table) 1 (now fours) (now codes) (now quals) m × (7280 ≤ length (now answer)) ⌝ }
+    requires { ⌜ (job-refusal (job-lists (now points) (now triangles) (now kept) (now table)) ≡ 0) × Boundary-codes (now triangles) (now boundary) × Bound-flags ((job (job-lists (now points) (now triangles) (now kept) (now table))) .triangles) (now bound) × (length (now bound) ≡ 4096) × Rows (points-in (now points)) (now rows) × Whole (job-lists (now points) (now triangles) (now kept) (now table)) 1 (now fours) (now codes) (now qualities) m × (7280 ≤ length (now answer)) ⌝ }
     ensures { λ r. ⌜ Searched (job (job-lists (now (points .entry)) (now (triangles .entry)) (now (kept .entry)) (now (table .entry)))) r (now (answer .entry)) (now (answer .exit)) ⌝ }
 {
     let watch = anything_loose(points.len() / 3, triangles, kept);
-    let low = opening(codes, quals, m, boundary, triangles.len() / 3, bound);
+    let low = opening(codes, qualities, m, boundary, triangles.len() / 3, bound);
     let r = search_from(
         points,
         triangles,
@@ -416,7 +375,7 @@ pub(crate) fn search_candidates(
         bound,
         fours,
         codes,
-        quals,
+        qualities,
         m,
         watch,
         low,
@@ -439,7 +398,7 @@ pub(crate) fn search_candidates(
         bound,
         fours,
         codes,
-        quals,
+        qualities,
         m,
         watch,
         1,
@@ -467,7 +426,7 @@ pub(crate) fn search_accepted(
     let bound = f.flag;
     let mut fours = [0u8; 7280];
     let mut codes = [0u16; 7280];
-    let mut quals = [0u32; 1820];
+    let mut qualities = [0u32; 1820];
     let m = gather(
         points,
         triangles,
@@ -478,7 +437,7 @@ pub(crate) fn search_accepted(
         1,
         &mut fours,
         &mut codes,
-        &mut quals,
+        &mut qualities,
     );
     search_candidates(
         points,
@@ -490,7 +449,7 @@ pub(crate) fn search_accepted(
         &bound,
         &fours,
         &codes,
-        &quals,
+        &qualities,
         m,
         answer,
     )

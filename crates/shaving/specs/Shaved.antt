@@ -4,11 +4,10 @@ use mathlib.Core.Bool.{Bool, true}
 use mathlib.Core.List.{List}
 use Prim.Native.Nat.{ℕ}
 use lib.ListN.{length, getD, set}
-use lib.IntN.{ℤ}
 use Rattle.geometry.specs.declared.tetrahedron.Four.{Four}
 use Rattle.laws.specs.Laws.{Job, fours-in}
 use Rattle.laws.specs.inner.Members.{In}
-use Rattle.laws.specs.Lists.{job-lists}
+use Rattle.laws.specs.Lists.{Lists}
 use Rattle.laws.specs.Check.{job}
 use Rattle.fillings.specs.Marks.{nth, Fills, Reduced}
 use Rattle.fillings.specs.Steps.{Context}
@@ -20,8 +19,8 @@ pub record Discarded (m : ℕ) (codes bound held ms tr : List ℕ) (top k : ℕ)
   pub trailed : Trailed m codes ms tr top ns owners ur end
   pub gone : getD ns k 0 ≡ 0
   pub reduced :
-      (ps : List ℤ) (ts es : List ℕ) (qs : List ℤ) (fours : List ℕ) → Context ps ts es qs fours codes bound m → Counts 2 m codes ms held →
-      Reduced (job (job-lists ps ts es qs)) (fours-in m fours) ms (set ms k 0) → Reduced (job (job-lists ps ts es qs)) (fours-in m fours) ms ns
+      (l : Lists) (fours : List ℕ) → Context l fours codes bound m → Counts 2 m codes ms held →
+      Reduced (job l) (fours-in m fours) ms (set ms k 0) → Reduced (job l) (fours-in m fours) ms ns
 
 -- the state is as it was; of the trail, what lies below its top
 pub record As-it-was (m : ℕ) (ms owners held tr : List ℕ) (top : ℕ) (ns owners-now held-now ur : List ℕ) : Type 0 where

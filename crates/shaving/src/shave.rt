@@ -8,11 +8,11 @@ ghost use Rattle.laws.specs.Check.{job};
 ghost use Rattle.fillings.specs.Steps.{Ready};
 ghost use Rattle.trail.specs.Counts.{Counts};
 ghost use Rattle.trail.specs.State.{Coded, Living};
-ghost use Rattle.settling.specs.Prepared.{Prepared};
+ghost use Rattle.propagation.specs.Prepared.{Prepared};
 ghost use Rattle.shaving.specs.Shaved.{Discarded, Refuted, Shaved};
-use pruning::prune::propagate;
-use settling::place::place;
-use settling::settle::settle;
+use placing::place::place;
+use propagation::propagate::propagate;
+use pruning::prune::prune_from;
 use trail::marks::drop;
 use trail::marks::undo;
 use trail::marks::unset;
@@ -35,7 +35,7 @@ pub fn discard(
     ensures { λ e. ⌜ Discarded m (now (codes .entry)) (now (bound .entry)) (now (held .entry)) (now (marks .entry)) (now (trail .entry)) top k (now (marks .exit)) (now (owners .exit)) (now (trail .exit)) e ⌝ }
 {
     let end = drop(codes, m, k, marks, owners, trail, top);
-    propagate(
+    prune_from(
         codes,
         bound,
         m,
@@ -74,7 +74,7 @@ pub(crate) fn is_refuted(
     trail: &mut [u16],
     top: usize,
 ) -> bool
-    requires { ⌜ Prepared (now points) (now triangles) (now kept) (now table) (now rows) (now fours) (now codes) (now boundary) (now bound) m (now corners) (now piercing) (now head) (now next) × Ready (job (job-lists (now points) (now triangles) (now kept) (now table))) (fours-in m (now fours)) (now marks) × Living m (now codes) (now marks) (now owners) (now trail) top × Counts 2 m (now codes) (now marks) (now held) × (k < m) × (getD (now marks) k 0 ≡ 1) ⌝ }
+    requires { ⌜ Prepared (job-lists (now points) (now triangles) (now kept) (now table)) (now rows) (now fours) (now codes) (now boundary) (now bound) m (now corners) (now piercing) (now head) (now next) × Ready (job (job-lists (now points) (now triangles) (now kept) (now table))) (fours-in m (now fours)) (now marks) × Living m (now codes) (now marks) (now owners) (now trail) top × Counts 2 m (now codes) (now marks) (now held) × (k < m) × (getD (now marks) k 0 ≡ 1) ⌝ }
     ensures { λ r. ⌜ Refuted (job (job-lists (now (points .entry)) (now (triangles .entry)) (now (kept .entry)) (now (table .entry)))) (fours-in m (now (fours .entry))) m k (now (marks .entry)) (now (owners .entry)) (now (held .entry)) (now (trail .entry)) top r (now (marks .exit)) (now (owners .exit)) (now (held .exit)) (now (trail .exit)) ⌝ }
 {
     let end = place(
@@ -90,7 +90,7 @@ pub(crate) fn is_refuted(
         trail,
         top,
     );
-    let z = settle(
+    let z = propagate(
         points,
         triangles,
         kept,
@@ -142,7 +142,7 @@ pub fn shave(
     trail: &mut [u16],
     top: usize,
 ) -> usize
-    requires { ⌜ Prepared (now points) (now triangles) (now kept) (now table) (now rows) (now fours) (now codes) (now boundary) (now bound) m (now corners) (now piercing) (now head) (now next) × Ready (job (job-lists (now points) (now triangles) (now kept) (now table))) (fours-in m (now fours)) (now marks) × Living m (now codes) (now marks) (now owners) (now trail) top × Counts 2 m (now codes) (now marks) (now held) ⌝ }
+    requires { ⌜ Prepared (job-lists (now points) (now triangles) (now kept) (now table)) (now rows) (now fours) (now codes) (now boundary) (now bound) m (now corners) (now piercing) (now head) (now next) × Ready (job (job-lists (now points) (now triangles) (now kept) (now table))) (fours-in m (now fours)) (now marks) × Living m (now codes) (now marks) (now owners) (now trail) top × Counts 2 m (now codes) (now marks) (now held) ⌝ }
     ensures { λ e. ⌜ Shaved (job (job-lists (now (points .entry)) (now (triangles .entry)) (now (kept .entry)) (now (table .entry)))) (fours-in m (now (fours .entry))) m (now (codes .entry)) (now (marks .entry)) (now (held .entry)) (now (trail .entry)) top (now (marks .exit)) (now (owners .exit)) (now (held .exit)) (now (trail .exit)) e ⌝ }
 {
     let mut end = top;

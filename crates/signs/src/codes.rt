@@ -2,7 +2,7 @@
 ghost use mathlib.Core.Path.{_≡_};
 ghost use Prim.Native.Nat.{_<_};
 ghost use Rattle.laws.specs.Laws.{tri};
-ghost use Rattle.laws.specs.inner.FaceCodes.{face-code, flip-code};
+ghost use Rattle.laws.specs.inner.FaceCodes.{face-code};
 
 pub fn face_code(a: usize, b: usize, c: usize) -> usize
     requires { ⌜ (a < 16) × (b < 16) × (c < 16) ⌝ }
@@ -18,12 +18,4 @@ pub fn face_code(a: usize, b: usize, c: usize) -> usize
         return b * 256 + c * 16 + a;
     }
     c * 256 + a * 16 + b
-}
-
-// The number of the reverse.
-pub fn flip(c: usize) -> usize
-    requires { ⌜ c < 4096 ⌝ }
-    ensures { λ r. ⌜ (r ≡ flip-code c) × (r < 4096) ⌝ }
-{
-    c / 256 * 256 + c % 16 * 16 + c / 16 % 16
 }

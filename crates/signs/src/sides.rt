@@ -28,7 +28,7 @@ pub fn row(rows: &[u16], a: usize, b: usize, c: usize) -> u16
 }
 
 // Whether the point p lies behind the triangle a, b, c.
-pub fn is_behind(rows: &[u16], a: usize, b: usize, c: usize, p: usize) -> bool
+pub(crate) fn is_behind(rows: &[u16], a: usize, b: usize, c: usize, p: usize) -> bool
     requires { ⌜ (length (now rows) ≡ 4096) × (a < 16) × (b < 16) × (c < 16) × (p < 16) ⌝ }
     ensures { λ r. ⌜ ((ps : List V3) → Rows ps (now (rows .entry)) → Proper-below (length ps) (tri a b c) → p < length ps → r ≡ above zero-z (det (point ps a) (point ps b) (point ps c) (point ps p))) ⌝ }
 {

@@ -1,1 +1,1 @@
-pub mod Trying
+pub mod Beginning

@@ -1,4 +1,3 @@
-// Thresholds: the candidates from a quality on, a guess on which nothing rests, and the best worst quality.
+// Thresholds: the candidates from a quality on, the qualities between two bounds, and an upper bound of the best worst quality, on which nothing rests.
 // Assumes nothing.
-pub mod best;
 pub mod threshold;

@@ -1,10 +1,10 @@
 -- The face codes of a pool. Assumes nothing.
 use mathlib.Core.List.{List}
 use Prim.Native.Nat.{ℕ}
-use lib.IntN.{ℤ}
+use Rattle.laws.specs.Lists.{Lists}
 use Rattle.fillings.specs.Steps.{Context}
-use Rattle.fillings.proofs.ByCode.RimFlags.{context-codes-below}
+use Rattle.fillings.proofs.ByCode.BoundaryCodes.{context-codes-below}
 use Rattle.trail.specs.State.{Coded}
 
-pub context-coded : {ps : List ℤ} {ts es : List ℕ} {qs : List ℤ} {fours codes bound : List ℕ} {m : ℕ} → Context ps ts es qs fours codes bound m → Coded m codes
+pub context-coded : {L : Lists} {fours codes bound : List ℕ} {m : ℕ} → Context L fours codes bound m → Coded m codes
 context-coded x = record { few = x .few; below = context-codes-below x }

@@ -45,10 +45,6 @@ pub traced-rises : {m : ℕ} {tr : List ℕ} {from to : ℕ} {ms ns : List ℕ} 
 traced-rises nothing = omega arith
 traced-rises (dropped t b a) = let r = traced-rises t in omega arith
 
-pub traced-long : {m : ℕ} {tr : List ℕ} {from to : ℕ} {ms ns : List ℕ} → Traced m tr from to ms ns → length ns ≡ length ms
-traced-long nothing = refl
-traced-long {tr = tr} (dropped {to = to} {ns = ns} t b a) = length-set ns (getD tr to 0) 0 ∙ traced-long t
-
 pub traced-fewer : {m : ℕ} {tr : List ℕ} {from to : ℕ} {ms ns : List ℕ} → Traced m tr from to ms ns → (k : ℕ) → getD ns k 0 ≡ 1 → getD ms k 0 ≡ 1
 traced-fewer nothing k e = e
 traced-fewer {tr = tr} (dropped {to = to} {ns = ns} t b a) k e = traced-fewer t k (dropped-fewer ns (getD tr to 0) k a e)

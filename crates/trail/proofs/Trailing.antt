@@ -87,9 +87,6 @@ module _ {m : ℕ} {codes ms : List ℕ} {t : ℕ} {ow held ow2 held2 : List ℕ
 pub set-length : {m : ℕ} {codes : List ℕ} {t : ℕ} {ms ns ow held : List ℕ} → Set m codes t ms ns ow held → length ns ≡ length ms
 set-length {t = t} {ms = ms} s = ap length (s .marks) ∙ length-set ms t 2
 
-pub unset-length : {m : ℕ} {codes : List ℕ} {t : ℕ} {ms ns ow held : List ℕ} → Unset m codes t ms ns ow held → length ns ≡ length ms
-unset-length {t = t} {ms = ms} s = ap length (s .marks) ∙ length-set ms t 1
-
 pub living-set :
     {m : ℕ} {codes ms ow tr : List ℕ} {top t : ℕ} {ns ow2 held : List ℕ} → t < m → m ≤ 1820 → getD ms t 0 ≡ 1 → Living m codes ms ow tr top → Set m codes t ms ns ow2 held →
     Living m codes ns ow2 tr top
@@ -105,10 +102,6 @@ living-set {m} {ms = ms} {top = top} {t = t} b few a h s =
 pub set-unset : (ms : List ℕ) (t : ℕ) → getD ms t 0 ≡ 1 → set (set ms t 2) t 1 ≡ ms
 set-unset ms t a = set-set ms t 2 1 ∙ ap (λ (v : ℕ). set ms t v) (sym a) ∙ set-getD ms t 0
 
-pub unset-back :
-    {m : ℕ} {codes : List ℕ} {t : ℕ} {ms ns ow held ls ow2 held2 : List ℕ} → getD ms t 0 ≡ 1 → Set m codes t ms ns ow held → Unset m codes t ns ls ow2 held2 → ls ≡ ms
-unset-back {t = t} {ms = ms} a s u = u .marks ∙ ap (λ (xs : List ℕ). set xs t 1) (s .marks) ∙ set-unset ms t a
-
 -- ---- taking back: the same marks as before, other counts and another trail of the same length
 pub living-again :
     {m : ℕ} {codes ms ow tr ow2 ur : List ℕ} {top : ℕ} → length ur ≡ length tr → Counts 1 m codes ms ow2 → Living m codes ms ow tr top → Living m codes ms ow2 ur top
@@ -123,10 +116,3 @@ pub undone-living :
 undone-living {m} {codes} {tr = tr} {top = top} {ur = ur} {ow = ow} h f u =
     subst (λ (xs : List ℕ). Living m codes xs ow ur top) (sym (u .back _ (f .traced)))
     (living-again (f .living .trail-long ∙ sym (h .trail-long)) (undone-counts (f .traced) u) h)
-
-pub living-unset :
-    {m : ℕ} {codes ms ow tr : List ℕ} {top t : ℕ} {ns ow2 held ur : List ℕ} → getD ms t 0 ≡ 1 → length ur ≡ length tr → Living m codes ms ow tr top →
-    Unset m codes t (set ms t 2) ns ow2 held → Living m codes ns ow2 ur top
-living-unset {m} {codes} {ms} {top = top} {t = t} {ow2 = ow2} {ur = ur} a e h u =
-    let back = u .marks ∙ set-unset ms t a in
-    subst (λ (xs : List ℕ). Living m codes xs ow2 ur top) (sym back) (living-again e (subst (λ (xs : List ℕ). Counts 1 m codes xs ow2) back (u .alive)) h)

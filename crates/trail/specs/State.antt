@@ -12,6 +12,13 @@ pub record Coded (m : ℕ) (codes : List ℕ) : Type 0 where
   pub few : m ≤ 1820
   pub below : All-below 4096 (m * 4) codes
 
+-- the buffers of a state are as long as they must be
+pub record Sized (marks owners held trail : List ℕ) : Type 0 where
+  pub marks-long : length marks ≡ 1820
+  pub owners-long : length owners ≡ 4096
+  pub held-long : length held ≡ 4096
+  pub trail-long : length trail ≡ 1820
+
 -- marks, the alive owners of each face, and a trail with room for everything that is alive
 pub record Living (m : ℕ) (codes marks owners trail : List ℕ) (top : ℕ) : Type 0 where
   pub marks-long : length marks ≡ 1820

@@ -9,9 +9,8 @@ use lib.Seq.{getD-set-same, getD-set-other}
 use Rattle.bits.specs.Bit.{bit}
 use Rattle.geometry.specs.Space.{four}
 use Rattle.geometry.specs.declared.tetrahedron.Four.{Four}
-use Rattle.laws.specs.Laws.{corner-of, fours-in}
+use Rattle.laws.specs.Laws.{corner-of}
 use Rattle.laws.proofs.Order.Bytes.{fours-in-nth}
-use Rattle.fillings.specs.Marks.{nth}
 use Rattle.candidates.specs.Clashes.{Corner-sets}
 
 -- of the first n

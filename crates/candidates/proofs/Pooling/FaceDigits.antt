@@ -13,7 +13,7 @@ use Rattle.laws.specs.inner.FaceCodes.{Proper-below, Proper, face-code}
 use Rattle.laws.proofs.Faces.Triangles.{Same, turn, turn-0, turn-1, turn-2}
 use Rattle.laws.proofs.Faces.FaceCodes.{proper-turn, face-code-same}
 use Rattle.fillings.proofs.ByCode.PairFlags.{Corner, at-a, at-b, at-c, at-d}
-use Rattle.fillings.proofs.Loops.RimLoops.{code-from-a}
+use Rattle.fillings.proofs.Loops.BoundaryLoops.{code-from-a}
 use Rattle.fillings.proofs.Pooling.Written.{one-of-four}
 
 abbrev pub read-back : ℕ → Tri

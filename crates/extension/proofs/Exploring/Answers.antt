@@ -1,12 +1,11 @@
--- What a face and a corner answer, from what was settled, set and tried. Assumes nothing.
+-- What a face and a corner answer, from what was propagated, set and tried. Assumes nothing.
 use mathlib.Core.Path.{_≡_, refl, sym, _∙_}
 use mathlib.Core.Bool.{Bool, true, false, true≢false}
 use mathlib.Core.List.{List}
 use Prim.Native.Nat.{ℕ, _≤_}
-use lib.IntN.{ℤ}
 use Rattle.geometry.specs.declared.tetrahedron.Four.{Four}
 use Rattle.laws.specs.Laws.{Job, fours-in}
-use Rattle.laws.specs.Lists.{job-lists}
+use Rattle.laws.specs.Lists.{Lists}
 use Rattle.laws.specs.Check.{job}
 use Rattle.fillings.specs.Marks.{marked, Reduced, Cornered}
 use Rattle.fillings.specs.Steps.{Context}
@@ -14,11 +13,11 @@ use Rattle.fillings.proofs.ByNumber.FaceLoop.{tried-all}
 use Rattle.fillings.proofs.ByNumber.Reduction.{reduced-back}
 use Rattle.fillings.proofs.ByCode.Context.{tried-none}
 use Rattle.trail.specs.Counts.{Counts}
-use Rattle.trail.specs.State.{Living}
+use Rattle.trail.specs.State.{Living, Sized}
 use Rattle.trail.proofs.Tracing.{traced-counts}
 use Rattle.trail.proofs.Trailing.{trailed-trans}
-use Rattle.settling.specs.Moves.{Settlement}
-use Rattle.extension.specs.Explored.{Sized, Explored, Explored-corner}
+use Rattle.propagation.specs.Propagation.{Propagation}
+use Rattle.extension.specs.Explored.{Explored, Explored-corner}
 use Rattle.shaving.specs.Shaved.{As-it-was}
 use Rattle.shaving.proofs.Shaving.TakingBack.{counts-back, living-back}
 use Rattle.extension.proofs.Exploring.OwnersLoop.{Exploring, exploring-counts}
@@ -49,41 +48,41 @@ face-found {cs = cs} {ns = ns} d e r =
       set = λ q. absurd (true≢false (sym e ∙ q));
     }
 
-module _ {ps : List ℤ} {ts es : List ℕ} {qs : List ℤ} {m : ℕ} {fours codes ms held tr : List ℕ} {top kind face : ℕ} {ns ow ur : List ℕ} {end : ℕ}
-    (g : Counts 2 m codes ms held) (z : Settlement ps ts es qs m fours codes ms tr top kind face ns ow ur end) where
-  pub settled-counts : Counts 2 m codes ns held
-  settled-counts = traced-counts (z .trailed .traced) g
+module _ {L : Lists} {m : ℕ} {fours codes ms held tr : List ℕ} {top kind face : ℕ} {ns ow ur : List ℕ} {end : ℕ}
+    (g : Counts 2 m codes ms held) (z : Propagation L m fours codes ms tr top kind face ns ow ur end) where
+  pub propagated-counts : Counts 2 m codes ns held
+  propagated-counts = traced-counts (z .trailed .traced) g
 
-  pub face-hopeless : kind ≡ 0 → Explored (job (job-lists ps ts es qs)) (fours-in m fours) m codes ms held tr top false ns ow held ur end
+  pub face-hopeless : kind ≡ 0 → Explored (job L) (fours-in m fours) m codes ms held tr top false ns ow held ur end
   face-hopeless e =
       record {
-        sized = sized-now (z .trailed .living) settled-counts;
-        extended = record { yes = λ q. absurd (true≢false (sym q)); no = λ q F f. z .settles .hopeless e F (z .settles .reduced .keeps F f) };
+        sized = sized-now (z .trailed .living) propagated-counts;
+        extended = record { yes = λ q. absurd (true≢false (sym q)); no = λ q F f. z .propagates .hopeless e F (z .propagates .reduced .keeps F f) };
         trailed = λ q. z .trailed;
         set = λ q. refl;
       }
 
-  pub face-done : kind ≡ 1 → Explored (job (job-lists ps ts es qs)) (fours-in m fours) m codes ms held tr top true ns ow held ur end
+  pub face-done : kind ≡ 1 → Explored (job L) (fours-in m fours) m codes ms held tr top true ns ow held ur end
   face-done e =
       record {
-        sized = sized-now (z .trailed .living) settled-counts;
-        extended = record { yes = λ q. reduced-back (z .settles .reduced) _ (z .settles .done e); no = λ q. absurd (true≢false q) };
+        sized = sized-now (z .trailed .living) propagated-counts;
+        extended = record { yes = λ q. reduced-back (z .propagates .reduced) _ (z .propagates .done e); no = λ q. absurd (true≢false q) };
         trailed = λ q. absurd (true≢false q);
         set = λ q. absurd (true≢false q);
       }
 
   -- every owner of the open face failed
   pub face-failed :
-      {bound ls ow2 held2 vr : List ℕ} {last k : ℕ} → Context ps ts es qs fours codes bound m → (kind ≡ 0 → ⊥) → (kind ≡ 1 → ⊥) → m ≤ k →
-      Exploring (job (job-lists ps ts es qs)) (fours-in m fours) m codes face ns held ur end ls ow2 held2 vr last k →
-      Explored (job (job-lists ps ts es qs)) (fours-in m fours) m codes ms held tr top false ls ow2 held2 vr last
+      {bound ls ow2 held2 vr : List ℕ} {last k : ℕ} → Context L fours codes bound m → (kind ≡ 0 → ⊥) → (kind ≡ 1 → ⊥) → m ≤ k →
+      Exploring (job L) (fours-in m fours) m codes face ns held ur end ls ow2 held2 vr last k →
+      Explored (job L) (fours-in m fours) m codes ms held tr top false ls ow2 held2 vr last
   face-failed x a b l s =
       record {
-        sized = sized-now (s .trailed .living) (exploring-counts s settled-counts);
+        sized = sized-now (s .trailed .living) (exploring-counts s propagated-counts);
         extended =
             record {
               yes = λ q. absurd (true≢false (sym q));
-              no = λ q F f. tried-none x (z .settles .opens a b) (tried-all l (s .tried)) F (z .settles .reduced .keeps F f);
+              no = λ q F f. tried-none x (z .propagates .opens a b) (tried-all l (s .tried)) F (z .propagates .reduced .keeps F f);
             };
         trailed = λ q. trailed-trans (z .trailed) (s .trailed);
         set = λ q. s .set;

@@ -5,10 +5,9 @@ use mathlib.Core.List.{List}
 use Prim.Native.Nat.{ℕ, _+_, _≤_, _<_}
 use native.Mathlib.Omega.{arith}
 use lib.ListN.{length, getD, set}
-use lib.IntN.{ℤ}
 use Rattle.geometry.specs.declared.tetrahedron.Four.{Four}
 use Rattle.laws.specs.Laws.{Job, fours-in}
-use Rattle.laws.specs.Lists.{job-lists}
+use Rattle.laws.specs.Lists.{Lists}
 use Rattle.laws.specs.Check.{job}
 use Rattle.fillings.specs.Marks.{Reduced}
 use Rattle.fillings.specs.Codes.{Owns}
@@ -54,15 +53,15 @@ module _ {j : Job} {cs : List Four} {m : ℕ} {codes : List ℕ} {at : ℕ} {ms 
 
 -- an owner failed, and was dropped
 pub exploring-failed :
-    {ps : List ℤ} {ts es : List ℕ} {qs : List ℤ} {m : ℕ} {fours codes bound : List ℕ} {at : ℕ} {ms held tr : List ℕ} {top : ℕ} {ns ow held1 ur ls ow2 held2 vr : List ℕ} {end k : ℕ} {found : Bool} {xs ow3 wr : List ℕ} {last : ℕ} →
-    Context ps ts es qs fours codes bound m → k < m → getD ns k 0 ≡ 1 → Counts 2 m codes ms held → found ≡ false →
-    Explored-corner (job (job-lists ps ts es qs)) (fours-in m fours) m k ns ow held1 ur end found ls ow2 held2 vr → Discarded m codes bound held2 ls vr end k xs ow3 wr last →
-    Exploring (job (job-lists ps ts es qs)) (fours-in m fours) m codes at ms held tr top ns ow held1 ur end k →
-    Exploring (job (job-lists ps ts es qs)) (fours-in m fours) m codes at ms held tr top xs ow3 held2 wr last (k + 1)
-exploring-failed {ps} {ts} {es} {qs} {m} {fours} {codes} {bound} {ns = ns} {k = k} {xs = xs} x l a g e r d s =
+    {L : Lists} {m : ℕ} {fours codes bound : List ℕ} {at : ℕ} {ms held tr : List ℕ} {top : ℕ} {ns ow held1 ur ls ow2 held2 vr : List ℕ} {end k : ℕ} {found : Bool} {xs ow3 wr : List ℕ} {last : ℕ} →
+    Context L fours codes bound m → k < m → getD ns k 0 ≡ 1 → Counts 2 m codes ms held → found ≡ false →
+    Explored-corner (job L) (fours-in m fours) m k ns ow held1 ur end found ls ow2 held2 vr → Discarded m codes bound held2 ls vr end k xs ow3 wr last →
+    Exploring (job L) (fours-in m fours) m codes at ms held tr top ns ow held1 ur end k →
+    Exploring (job L) (fours-in m fours) m codes at ms held tr top xs ow3 held2 wr last (k + 1)
+exploring-failed {L} {m} {fours} {codes} {bound} {ns = ns} {k = k} {xs = xs} x l a g e r d s =
     let b = exploring-back s (r .back e) in
     let drop = reduced-failed ns k (rw (context-count x) l) a e (r .cornered) in
-    let fewer = d .reduced ps ts es qs fours x (exploring-counts b g) (subst (λ (ys : List ℕ). Reduced (job (job-lists ps ts es qs)) (fours-in m fours) ys (set ys k 0)) (sym (r .back e .marks)) drop) in
+    let fewer = d .reduced L fours x (exploring-counts b g) (subst (λ (ys : List ℕ). Reduced (job L) (fours-in m fours) ys (set ys k 0)) (sym (r .back e .marks)) drop) in
     record { trailed = trailed-trans (b .trailed) (d .trailed); set = b .set; tried = tried-skip (λ y o. dead (d .gone) y) (tried-reduced (omega (arith, context-count x)) fewer (b .tried)) }
   where
     dead : {v : ℕ} → v ≡ 0 → v ≡ 1 → ⊥

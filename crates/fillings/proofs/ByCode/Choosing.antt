@@ -8,18 +8,17 @@ use native.Mathlib.Omega.{arith}
 use borrow.Author.Tests.{ltb-true}
 use lib.Dec.{ltb}
 use lib.ListN.{length, getD}
-use lib.IntN.{ℤ}
 use Rattle.laws.specs.Laws.{fours-in}
-use Rattle.laws.specs.Lists.{job-lists}
+use Rattle.laws.specs.Lists.{Lists}
 use Rattle.laws.specs.Check.{job}
 use Rattle.laws.proofs.Basics.Tests.{and-true, or-true, true-or-false}
 use Rattle.laws.specs.inner.FaceCodes.{face-code, flip-code}
 use Rattle.fillings.specs.Marks.{Reduced}
 use Rattle.fillings.specs.Codes.{Bound, Owner, Owner-flags, open-code}
-use Rattle.fillings.specs.Steps.{Context, Settles}
-use Rattle.fillings.specs.Tables.{Behind-set, Goes-on, On-rim, Rim}
-use Rattle.fillings.proofs.ByCode.Context.{context-count, settles-hopeless, settles-open}
-use Rattle.fillings.proofs.ByCode.RimFlags.{tri-number}
+use Rattle.fillings.specs.Steps.{Context, Propagates}
+use Rattle.fillings.specs.Tables.{Behind-set, Goes-on, On-boundary, Boundary-codes}
+use Rattle.fillings.proofs.ByCode.Context.{context-count, propagates-hopeless, propagates-open}
+use Rattle.fillings.proofs.ByCode.BoundaryCodes.{tri-number}
 
 -- ---- one choice after the other
 module _ {own bound lv : List ℕ} {A B : ℕ → Type 0} {k₁ f₁ k f : ℕ} (a : Goes-on own bound lv A 1 0 k₁ f₁) (b : Goes-on own bound lv B k₁ f₁ k f) where
@@ -50,32 +49,32 @@ module _ {own bound lv : List ℕ} {A B : ℕ → Type 0} {k₁ f₁ k f : ℕ} 
 
 -- ---- the boundary's faces first, then those behind the set candidates
 module _
-    {ps : List ℤ} {ts es : List ℕ} {qs : List ℤ} {fours codes bound : List ℕ} {m : ℕ} (x : Context ps ts es qs fours codes bound m) {ms ns own lv rim : List ℕ} {k₁ f₁ k f : ℕ}
-    (d : Reduced (job (job-lists ps ts es qs)) (fours-in m fours) ms ns) (o : Owner-flags m codes ms 2 own) (a : Goes-on own bound lv (On-rim rim (length ts / 3)) 1 0 k₁ f₁)
+    {L : Lists} {fours codes bound : List ℕ} {m : ℕ} (x : Context L fours codes bound m) {ms ns own lv boundary : List ℕ} {k₁ f₁ k f : ℕ}
+    (d : Reduced (job L) (fours-in m fours) ms ns) (o : Owner-flags m codes ms 2 own) (a : Goes-on own bound lv (On-boundary boundary (length (L .triangles) / 3)) 1 0 k₁ f₁)
     (b : Goes-on own bound lv (Behind-set codes ns m) k₁ f₁ k f)
   where
-    pub settles-chosen : Owner-flags m codes ns 1 lv → (k ≡ 1 → ⊥) → Settles (job (job-lists ps ts es qs)) (fours-in m fours) ms k f ns
-    settles-chosen v n =
+    pub propagates-chosen : Owner-flags m codes ns 1 lv → (k ≡ 1 → ⊥) → Propagates (job L) (fours-in m fours) ms k f ns
+    propagates-chosen v n =
         record {
           reduced = d;
-          hopeless = λ e. let r = chosen-hopeless a b e in settles-hopeless x d o v (r .0) (r .1) .hopeless refl;
+          hopeless = λ e. let r = chosen-hopeless a b e in propagates-hopeless x d o v (r .0) (r .1) .hopeless refl;
           done = λ e. absurd (n e);
-          opens = λ p q. settles-open x d o (chosen-open a b p q) .opens (λ e. omega arith) (λ e. omega arith);
+          opens = λ p q. propagates-open x d o (chosen-open a b p q) .opens (λ e. omega arith) (λ e. omega arith);
         }
 
     -- no open face among these: none
-    pub nothing-open : Rim ts rim → k ≡ 1 → (c : ℕ) → c < 4096 → open-code own bound c ≡ false
+    pub nothing-open : Boundary-codes (L .triangles) boundary → k ≡ 1 → (c : ℕ) → c < 4096 → open-code own bound c ≡ false
     nothing-open y e c h = go (true-or-false (open-code own bound c))
       where
-        on-rim : Bound (job (job-lists ps ts es qs) .triangles) c → On-rim rim (length ts / 3) c
-        on-rim u = let r = tri-number (length ts / 3) ts (u .face) (unfold job in (u .stands)) in record { number = r .0; below = r .1 .0; is = y .each (r .0) (r .1 .0) ∙ ap face-code (sym (r .1 .1)) ∙ u .code }
+        on-boundary : Bound (job L .triangles) c → On-boundary boundary (length (L .triangles) / 3) c
+        on-boundary u = let r = tri-number (length (L .triangles) / 3) (L .triangles) (u .face) (unfold job in (u .stands)) in record { number = r .0; below = r .1 .0; is = y .each (r .0) (r .1 .0) ∙ ap face-code (sym (r .1 .1)) ∙ u .code }
 
         behind : Owner m codes ms 2 (flip-code c) → Behind-set codes ns m c
         behind u = record { number = u .number; below = u .below; mark = d .stays (u .number) (rw (context-count x) (u .below)) (u .mark); owns = u .owns }
 
         from :
             (ltb 0 (getD bound c 0) ≡ true) ⊎ ((ltb 0 (getD own (flip-code c) 0) && not (ltb 0 (getD bound (flip-code c) 0))) ≡ true) → open-code own bound c ≡ false
-        from (inl s) = chosen-none a b e .0 c (on-rim (x .bounds .yes c (ltb-true 0 (getD bound c 0) s)))
+        from (inl s) = chosen-none a b e .0 c (on-boundary (x .bounds .yes c (ltb-true 0 (getD bound c 0) s)))
         from (inr s) =
             chosen-none a b e .1 c
             (behind (o .yes (flip-code c) (ltb-true 0 (getD own (flip-code c) 0) (and-true (ltb 0 (getD own (flip-code c) 0)) (not (ltb 0 (getD bound (flip-code c) 0))) s .0))))

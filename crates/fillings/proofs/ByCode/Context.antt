@@ -8,11 +8,10 @@ use native.Mathlib.Omega.{arith}
 use borrow.Author.Tests.{leb-true}
 use lib.Dec.{leb, eqb}
 use lib.ListN.{length, getD, set}
-use lib.IntN.{ℤ}
 use Rattle.geometry.specs.Space.{turned}
 use Rattle.geometry.specs.declared.tetrahedron.Four.{Four}
 use Rattle.laws.specs.Laws.{faces, all-faces, has, law-5, law-6, law-7, fours-in}
-use Rattle.laws.specs.Lists.{job-lists}
+use Rattle.laws.specs.Lists.{Lists}
 use Rattle.laws.specs.Check.{job}
 use Rattle.laws.proofs.Basics.Tests.{and-true, true-or-false}
 use Rattle.laws.proofs.Basics.Lists.{Each}
@@ -23,7 +22,7 @@ use Rattle.laws.proofs.Faces.ProperFaces.{boundary-proper}
 use Rattle.fillings.specs.Part.{open-face}
 use Rattle.fillings.specs.Marks.{nth, marked, live, Fills, Placed, Reduced, Extended, Cornered}
 use Rattle.fillings.specs.Codes.{Owns, Owner-flags, open-code}
-use Rattle.fillings.specs.Steps.{Context, Ready, Open-at, Settles}
+use Rattle.fillings.specs.Steps.{Context, Ready, Open-at, Propagates}
 use Rattle.fillings.proofs.Parts.Boundary.{Boundary, boundary}
 use Rattle.fillings.proofs.Parts.Coverage.{law-6-true, law-7-true}
 use Rattle.fillings.proofs.ByNumber.Numbers.{pool-sorted}
@@ -35,70 +34,70 @@ use Rattle.fillings.proofs.ByCode.FaceTable.{has-owns}
 use Rattle.fillings.proofs.ByCode.OpenCodes.{face-proper, none-open, none-open-code, open-at, useless-by-code}
 use Rattle.fillings.proofs.ByNumber.FaceLoop.{Tried}
 
-module _ {ps : List ℤ} {ts es : List ℕ} {qs : List ℤ} {fours codes bound : List ℕ} {m : ℕ} (x : Context ps ts es qs fours codes bound m) where
+module _ {L : Lists} {fours codes bound : List ℕ} {m : ℕ} (x : Context L fours codes bound m) where
   pub context-sorted : Sorted (fours-in m fours)
   context-sorted = pool-sorted (x .pool)
 
-  pub context-small : length (job (job-lists ps ts es qs) .points) ≤ 16
+  pub context-small : length (job L .points) ≤ 16
   unfolding job
   context-small =
-      let n = length (job (job-lists ps ts es qs) .points) in
-      leb-true n 16 (and-true (leb 4 n) (leb n 16) (and-true (eqb (length ps % 3) 0) (leb 4 n && leb n 16) (accepted (job-lists ps ts es qs) (x .accepted) .shape) .1) .1)
+      let n = length (job L .points) in
+      leb-true n 16 (and-true (leb 4 n) (leb n 16) (and-true (eqb (length (L .points) % 3) 0) (leb 4 n && leb n 16) (accepted L (x .accepted) .shape) .1) .1)
 
   pub context-count : length (fours-in m fours) ≡ m
   context-count = fours-in-length m fours
 
   -- one more is set
   pub ready-placed :
-      {t : ℕ} {ms ns : List ℕ} → t < m → getD ms t 0 ≡ 1 → Placed (job (job-lists ps ts es qs)) (fours-in m fours) t ms ns → Ready (job (job-lists ps ts es qs)) (fours-in m fours) ms →
-      Ready (job (job-lists ps ts es qs)) (fours-in m fours) ns
+      {t : ℕ} {ms ns : List ℕ} → t < m → getD ms t 0 ≡ 1 → Placed (job L) (fours-in m fours) t ms ns → Ready (job L) (fours-in m fours) ms →
+      Ready (job L) (fours-in m fours) ns
   ready-placed l a p r = record { fit = placed-fit (rw context-count l) p context-sorted a (r .fit) }
 
-  pub live-placed : {t : ℕ} {ms ns : List ℕ} → t < m → getD ms t 0 ≡ 1 → Placed (job (job-lists ps ts es qs)) (fours-in m fours) t ms ns → live m ns < live m ms
+  pub live-placed : {t : ℕ} {ms ns : List ℕ} → t < m → getD ms t 0 ≡ 1 → Placed (job L) (fours-in m fours) t ms ns → live m ns < live m ms
   live-placed {t} {ms} {ns} l a p = subst (λ (n : ℕ). live n ns < live n ms) context-count (placed-falls (rw context-count l) p a)
 
   pub cornered-placed :
-      {t : ℕ} {ms ns rs : List ℕ} {found : Bool} → t < m → getD ms t 0 ≡ 1 → Placed (job (job-lists ps ts es qs)) (fours-in m fours) t ms ns →
-      Extended (job (job-lists ps ts es qs)) (fours-in m fours) ns found rs → Cornered (job (job-lists ps ts es qs)) (fours-in m fours) ms t found rs
+      {t : ℕ} {ms ns rs : List ℕ} {found : Bool} → t < m → getD ms t 0 ≡ 1 → Placed (job L) (fours-in m fours) t ms ns →
+      Extended (job L) (fours-in m fours) ns found rs → Cornered (job L) (fours-in m fours) ms t found rs
   cornered-placed l a p e = cornered (rw context-count l) p context-sorted a e
 
   -- some are dropped
   pub ready-reduced :
-      {ms ns : List ℕ} → Reduced (job (job-lists ps ts es qs)) (fours-in m fours) ms ns → Ready (job (job-lists ps ts es qs)) (fours-in m fours) ms → Ready (job (job-lists ps ts es qs)) (fours-in m fours) ns
+      {ms ns : List ℕ} → Reduced (job L) (fours-in m fours) ms ns → Ready (job L) (fours-in m fours) ms → Ready (job L) (fours-in m fours) ns
   ready-reduced d r = record { fit = reduced-fit d (r .fit) }
 
-  pub live-reduced : {ms ns : List ℕ} → Reduced (job (job-lists ps ts es qs)) (fours-in m fours) ms ns → live m ns ≤ live m ms
+  pub live-reduced : {ms ns : List ℕ} → Reduced (job L) (fours-in m fours) ms ns → live m ns ≤ live m ms
   live-reduced {ms} {ns} d = subst (λ (n : ℕ). live n ns ≤ live n ms) context-count (reduced-falls d)
 
   -- all tried, none found
   pub tried-none :
-      {c : ℕ} {ms ns : List ℕ} → Open-at (job (job-lists ps ts es qs)) (marked 2 (fours-in m fours) ms) c → Tried (job (job-lists ps ts es qs)) (fours-in m fours) codes c ms ns m →
-      (F : List Four) → Fills (job (job-lists ps ts es qs)) (fours-in m fours) ms F → ⊥
+      {c : ℕ} {ms ns : List ℕ} → Open-at (job L) (marked 2 (fours-in m fours) ms) c → Tried (job L) (fours-in m fours) codes c ms ns m →
+      (F : List Four) → Fills (job L) (fours-in m fours) ms F → ⊥
   tried-none {c} {ms} {ns} o t F e =
       none-face (fours-in m fours) ns (o .face)
-      (subst (λ (S : List Four). open-face (job (job-lists ps ts es qs) .triangles) (all-faces (job (job-lists ps ts es qs) .points) S) (o .face) ≡ true) (sym (reduced-set (t .reduced) context-sorted)) (o .still))
-      (λ k l a. absent k l a (true-or-false (has (o .face) (faces (turned (job (job-lists ps ts es qs) .points) (nth (fours-in m fours) k)))))) F (t .reduced .keeps F e)
+      (subst (λ (S : List Four). open-face (job L .triangles) (all-faces (job L .points) S) (o .face) ≡ true) (sym (reduced-set (t .reduced) context-sorted)) (o .still))
+      (λ k l a. absent k l a (true-or-false (has (o .face) (faces (turned (job L .points) (nth (fours-in m fours) k)))))) F (t .reduced .keeps F e)
     where
-      good : Each (Well-formed (length (job (job-lists ps ts es qs) .points))) (fours-in m fours)
-      good = law-1-well-formed (length (job (job-lists ps ts es qs) .points)) (fours-in m fours) (x .pool .order)
+      good : Each (Well-formed (length (job L .points))) (fours-in m fours)
+      good = law-1-well-formed (length (job L .points)) (fours-in m fours) (x .pool .order)
 
       absent :
           (k : ℕ) → k < length (fours-in m fours) → getD ns k 0 ≡ 1 →
-          (has (o .face) (faces (turned (job (job-lists ps ts es qs) .points) (nth (fours-in m fours) k))) ≡ true) ⊎ (has (o .face) (faces (turned (job (job-lists ps ts es qs) .points) (nth (fours-in m fours) k))) ≡ false) →
-          has (o .face) (faces (turned (job (job-lists ps ts es qs) .points) (nth (fours-in m fours) k))) ≡ false
+          (has (o .face) (faces (turned (job L .points) (nth (fours-in m fours) k))) ≡ true) ⊎ (has (o .face) (faces (turned (job L .points) (nth (fours-in m fours) k))) ≡ false) →
+          has (o .face) (faces (turned (job L .points) (nth (fours-in m fours) k))) ≡ false
       absent k l a (inl h) =
           absurd (t .tried k (omega (arith, context-count)) a (subst (λ (d : ℕ). Owns codes k d) (o .code) (has-owns context-small good (x .faces) (o .face) k l h)))
       absent k l a (inr h) = h
 
-  -- ---- thinning and choosing
-  context-good : Each (Well-formed (length (job (job-lists ps ts es qs) .points))) (fours-in m fours)
-  context-good = law-1-well-formed (length (job (job-lists ps ts es qs) .points)) (fours-in m fours) (x .pool .order)
+  -- ---- pruning and choosing
+  context-good : Each (Well-formed (length (job L .points))) (fours-in m fours)
+  context-good = law-1-well-formed (length (job L .points)) (fours-in m fours) (x .pool .order)
 
-  context-proper : Each Proper (job (job-lists ps ts es qs) .triangles)
-  context-proper = boundary-proper (length (job (job-lists ps ts es qs) .points)) (job (job-lists ps ts es qs) .triangles) context-small (accepted (job-lists ps ts es qs) (x .accepted) .tris-good)
+  context-proper : Each Proper (job L .triangles)
+  context-proper = boundary-proper (length (job L .points)) (job L .triangles) context-small (accepted L (x .accepted) .tris-good)
 
-  pub context-boundary : Boundary (job (job-lists ps ts es qs) .triangles)
-  context-boundary = boundary ps ts es qs (x .accepted)
+  pub context-boundary : Boundary (job L .triangles)
+  context-boundary = boundary L (x .accepted)
 
   -- every face number is below 4096
   pub context-codes : (i : ℕ) → i < m * 4 → getD codes i 0 < 4096
@@ -110,33 +109,33 @@ module _ {ps : List ℤ} {ts es : List ℕ} {qs : List ℤ} {fours codes bound :
       let q : getD codes (i / 4 * 4 + i % 4) 0 < 4096 = subst (λ (c : ℕ). c < 4096) (sym (x .faces .each (i / 4) (i % 4) (rw context-count k) r)) (face-code-below _ p) in
       subst (λ (n : ℕ). getD codes n 0 < 4096) e q
 
-  own-moved : {ms ns own : List ℕ} → Reduced (job (job-lists ps ts es qs)) (fours-in m fours) ms ns → Owner-flags m codes ms 2 own → Owner-flags (length (fours-in m fours)) codes ns 2 own
+  own-moved : {ms ns own : List ℕ} → Reduced (job L) (fours-in m fours) ms ns → Owner-flags m codes ms 2 own → Owner-flags (length (fours-in m fours)) codes ns 2 own
   own-moved {ms} {ns} {own} d o =
       record {
         yes = λ c h. let w = o .yes c h in record { number = w .number; below = rw context-count (w .below); mark = d .stays (w .number) (rw context-count (w .below)) (w .mark); owns = w .owns };
         no = λ c w. o .no c (record { number = w .number; below = rw context-count at (w .below); mark = d .only (w .number) (w .below) (w .mark); owns = w .owns });
       }
 
-  pub reduced-thin :
+  pub reduced-prune :
       {ms ns own lv : List ℕ} {k c : ℕ} → Owner-flags m codes ms 2 own → Owner-flags m codes ms 1 lv → k < m → getD ns k 0 ≡ 1 → Owns codes k c →
-      open-code own bound c ≡ false → getD lv (flip-code c) 0 ≡ 0 → Reduced (job (job-lists ps ts es qs)) (fours-in m fours) ms ns → Reduced (job (job-lists ps ts es qs)) (fours-in m fours) ms (set ns k 0)
-  reduced-thin {ms} {ns} {own} {lv} {k} {c} o v l a w f z d =
+      open-code own bound c ≡ false → getD lv (flip-code c) 0 ≡ 0 → Reduced (job L) (fours-in m fours) ms ns → Reduced (job L) (fours-in m fours) ms (set ns k 0)
+  reduced-prune {ms} {ns} {own} {lv} {k} {c} o v l a w f z d =
       reduced-trans d
       (reduced-drop ns k (rw context-count l) a
-      (useless-by-code (job (job-lists ps ts es qs)) ns context-small context-good (x .faces) context-proper (own-moved d o) (x .bounds) k c (rw context-count l) w f
+      (useless-by-code (job L) ns context-small context-good (x .faces) context-proper (own-moved d o) (x .bounds) k c (rw context-count l) w f
       (λ u. clash z (v .no (flip-code c) (record { number = u .number; below = rw context-count at (u .below); mark = d .fewer (u .number) (u .below) (u .mark); owns = u .owns })))))
     where
       clash : {n : ℕ} → n ≡ 0 → 0 < n → ⊥
       clash p q = omega arith
 
   -- an open face that no alive candidate has
-  pub settles-hopeless :
-      {ms ns own lv : List ℕ} {c : ℕ} → Reduced (job (job-lists ps ts es qs)) (fours-in m fours) ms ns → Owner-flags m codes ms 2 own → Owner-flags m codes ns 1 lv →
-      open-code own bound c ≡ true → getD lv c 0 ≡ 0 → Settles (job (job-lists ps ts es qs)) (fours-in m fours) ms 0 c ns
-  settles-hopeless {ms} {ns} {own} {lv} {c} d o v h z =
+  pub propagates-hopeless :
+      {ms ns own lv : List ℕ} {c : ℕ} → Reduced (job L) (fours-in m fours) ms ns → Owner-flags m codes ms 2 own → Owner-flags m codes ns 1 lv →
+      open-code own bound c ≡ true → getD lv c 0 ≡ 0 → Propagates (job L) (fours-in m fours) ms 0 c ns
+  propagates-hopeless {ms} {ns} {own} {lv} {c} d o v h z =
       record {
         reduced = d;
-        hopeless = λ e. none-open-code (job (job-lists ps ts es qs)) ns context-small context-good (x .faces) context-proper (own-moved d o) (x .bounds) c h
+        hopeless = λ e. none-open-code (job L) ns context-small context-good (x .faces) context-proper (own-moved d o) (x .bounds) c h
             (λ u. clash z (v .no c (record { number = u .number; below = rw context-count at (u .below); mark = u .mark; owns = u .owns })));
         done = λ e. absurd (omega arith);
         opens = λ e. absurd (e refl);
@@ -146,44 +145,44 @@ module _ {ps : List ℤ} {ts es : List ℕ} {qs : List ℤ} {fours codes bound :
       clash p q = omega arith
 
   -- an open face to go on with
-  pub settles-open :
-      {ms ns own : List ℕ} {c : ℕ} → Reduced (job (job-lists ps ts es qs)) (fours-in m fours) ms ns → Owner-flags m codes ms 2 own → open-code own bound c ≡ true →
-      Settles (job (job-lists ps ts es qs)) (fours-in m fours) ms 2 c ns
-  settles-open {ms} {ns} {own} {c} d o h =
+  pub propagates-open :
+      {ms ns own : List ℕ} {c : ℕ} → Reduced (job L) (fours-in m fours) ms ns → Owner-flags m codes ms 2 own → open-code own bound c ≡ true →
+      Propagates (job L) (fours-in m fours) ms 2 c ns
+  propagates-open {ms} {ns} {own} {c} d o h =
       record {
         reduced = d;
         hopeless = λ e. absurd (omega arith);
         done = λ e. absurd (omega arith);
-        opens = λ e f. open-at (job (job-lists ps ts es qs)) ns context-small context-good (x .faces) context-proper (own-moved d o) (x .bounds) c h;
+        opens = λ e f. open-at (job L) ns context-small context-good (x .faces) context-proper (own-moved d o) (x .bounds) c h;
       }
 
   -- nothing open: laws 5 to 7 decide
-  pub settles-covered :
-      {ms ns own : List ℕ} {c : ℕ} → Ready (job (job-lists ps ts es qs)) (fours-in m fours) ms → Reduced (job (job-lists ps ts es qs)) (fours-in m fours) ms ns → Owner-flags m codes ms 2 own →
-      ((c : ℕ) → c < 4096 → open-code own bound c ≡ false) → law-5 (job (job-lists ps ts es qs)) (marked 2 (fours-in m fours) ns) ≡ true →
-      (law-6 (job (job-lists ps ts es qs)) (marked 2 (fours-in m fours) ns) && law-7 (job (job-lists ps ts es qs)) (marked 2 (fours-in m fours) ns)) ≡ true →
-      Settles (job (job-lists ps ts es qs)) (fours-in m fours) ms 1 c ns
-  settles-covered {ms} {ns} {own} {c} r d o h q l =
+  pub propagates-covered :
+      {ms ns own : List ℕ} {c : ℕ} → Ready (job L) (fours-in m fours) ms → Reduced (job L) (fours-in m fours) ms ns → Owner-flags m codes ms 2 own →
+      ((c : ℕ) → c < 4096 → open-code own bound c ≡ false) → law-5 (job L) (marked 2 (fours-in m fours) ns) ≡ true →
+      (law-6 (job L) (marked 2 (fours-in m fours) ns) && law-7 (job L) (marked 2 (fours-in m fours) ns)) ≡ true →
+      Propagates (job L) (fours-in m fours) ms 1 c ns
+  propagates-covered {ms} {ns} {own} {c} r d o h q l =
       let S = marked 2 (fours-in m fours) ns in
-      let p = and-true (law-6 (job (job-lists ps ts es qs)) S) (law-7 (job (job-lists ps ts es qs)) S) l in
+      let p = and-true (law-6 (job L) S) (law-7 (job L) S) l in
       record {
         reduced = d;
         hopeless = λ e. absurd (omega arith);
         done = λ e.
             found-marks ns context-sorted (reduced-fit d (r .fit))
-            (none-open (job (job-lists ps ts es qs)) ns context-small context-good (x .faces) context-proper (own-moved d o) (x .bounds) h) q (law-6-true (job (job-lists ps ts es qs)) S (p .0)) (law-7-true (job (job-lists ps ts es qs)) S (p .1));
+            (none-open (job L) ns context-small context-good (x .faces) context-proper (own-moved d o) (x .bounds) h) q (law-6-true (job L) S (p .0)) (law-7-true (job L) S (p .1));
         opens = λ e f. absurd (f refl);
       }
 
-  pub settles-uncovered :
-      {ms ns own : List ℕ} {c : ℕ} → Reduced (job (job-lists ps ts es qs)) (fours-in m fours) ms ns → Owner-flags m codes ms 2 own → ((c : ℕ) → c < 4096 → open-code own bound c ≡ false) →
-      (law-5 (job (job-lists ps ts es qs)) (marked 2 (fours-in m fours) ns) && (law-6 (job (job-lists ps ts es qs)) (marked 2 (fours-in m fours) ns) && law-7 (job (job-lists ps ts es qs)) (marked 2 (fours-in m fours) ns))) ≡ false →
-      Settles (job (job-lists ps ts es qs)) (fours-in m fours) ms 0 c ns
-  settles-uncovered {ms} {ns} {own} {c} d o h l =
+  pub propagates-uncovered :
+      {ms ns own : List ℕ} {c : ℕ} → Reduced (job L) (fours-in m fours) ms ns → Owner-flags m codes ms 2 own → ((c : ℕ) → c < 4096 → open-code own bound c ≡ false) →
+      (law-5 (job L) (marked 2 (fours-in m fours) ns) && (law-6 (job L) (marked 2 (fours-in m fours) ns) && law-7 (job L) (marked 2 (fours-in m fours) ns))) ≡ false →
+      Propagates (job L) (fours-in m fours) ms 0 c ns
+  propagates-uncovered {ms} {ns} {own} {c} d o h l =
       record {
         reduced = d;
         hopeless = λ e. none-closed ns context-boundary context-sorted
-            (none-open (job (job-lists ps ts es qs)) ns context-small context-good (x .faces) context-proper (own-moved d o) (x .bounds) h) l;
+            (none-open (job L) ns context-small context-good (x .faces) context-proper (own-moved d o) (x .bounds) h) l;
         done = λ e. absurd (omega arith);
         opens = λ e. absurd (e refl);
       }

@@ -6,10 +6,9 @@ use mathlib.Core.List.{List}
 use Prim.Native.Nat.{ℕ, zero, suc, _+_, _*_, _/_, _≤_, _<_}
 use native.Mathlib.Omega.{arith}
 use lib.ListN.{length, getD, drop}
-use lib.IntN.{ℤ}
 use Rattle.geometry.specs.declared.tetrahedron.Four.{Four}
 use Rattle.laws.specs.Laws.{Edge, corner-of, law-6, law-7, fours-in}
-use Rattle.laws.specs.Lists.{job-lists}
+use Rattle.laws.specs.Lists.{Lists}
 use Rattle.laws.specs.Check.{job, edges-in}
 use Rattle.laws.specs.inner.Members.{Any, here, there}
 use Rattle.laws.proofs.Basics.Tests.{and-of, and-true, true-or-false}
@@ -28,7 +27,7 @@ edge-stands (suc n) es (suc i) h =
     there (subst (λ (d : Edge). Any (λ (e : Edge). d ≡ e) (edges-in n (drop 2 es))) (edge-at-drop es i) (edge-stands n (drop 2 es) i (omega arith)))
 
 module _
-    (ps : List ℤ) (ts es : List ℕ) (qs : List ℤ) (m : ℕ) (fours ms : List ℕ) {v w : ℕ} {flags : List ℕ} (few : length ps / 3 ≤ 16) (kept : All-below 16 (length es / 2 * 2) es)
+    (L : Lists) (m : ℕ) (fours ms : List ℕ) {v w : ℕ} {flags : List ℕ} (few : length (L .points) / 3 ≤ 16) (kept : All-below 16 (length (L .kept) / 2 * 2) (L .kept))
     (l : Links-are m fours ms v w flags)
   where
     -- no flag, so no candidate with such a mark has both points
@@ -49,11 +48,11 @@ module _
         go (inr f) = f
 
     off-edge :
-        (i k : ℕ) → i < length es / 2 → k < length (fours-in m fours) → (getD ms k 0 ≡ v) ⊎ (getD ms k 0 ≡ w) →
-        getD flags (getD es (i * 2) 0 * 16 + getD es (i * 2 + 1) 0) 0 ≡ 0 → On-edge (edge-at es i) (nth (fours-in m fours) k) → ⊥
+        (i k : ℕ) → i < length (L .kept) / 2 → k < length (fours-in m fours) → (getD ms k 0 ≡ v) ⊎ (getD ms k 0 ≡ w) →
+        getD flags (getD (L .kept) (i * 2) 0 * 16 + getD (L .kept) (i * 2 + 1) 0) 0 ≡ 0 → On-edge (edge-at (L .kept) i) (nth (fours-in m fours) k) → ⊥
     off-edge i k h b e z o =
-        let r = and-true (corner-of (getD es (i * 2) 0) (nth (fours-in m fours) k)) (corner-of (getD es (i * 2 + 1) 0) (nth (fours-in m fours) k)) o in
-        unlinked-by (getD es (i * 2) 0) (getD es (i * 2 + 1) 0) k (kept .each (i * 2) (omega arith)) (kept .each (i * 2 + 1) (omega arith)) b e z (r .0) (r .1)
+        let r = and-true (corner-of (getD (L .kept) (i * 2) 0) (nth (fours-in m fours) k)) (corner-of (getD (L .kept) (i * 2 + 1) 0) (nth (fours-in m fours) k)) o in
+        unlinked-by (getD (L .kept) (i * 2) 0) (getD (L .kept) (i * 2 + 1) 0) k (kept .each (i * 2) (omega arith)) (kept .each (i * 2 + 1) (omega arith)) b e z (r .0) (r .1)
 
     link-number : {a b : ℕ} → v ≡ 2 → w ≡ 2 → (r : Link m fours ms v w a b) → getD ms (r .number) 0 ≡ 2
     link-number p q r = go (r .mark)
@@ -63,28 +62,28 @@ module _
         go (inr e) = e ∙ q
 
     -- neither set nor alive: no filling covers it
-    pub unlinked-hopeless : v ≡ 1 → w ≡ 2 → Unlinked (length ps / 3) es flags → (F : List Four) → Fills (job (job-lists ps ts es qs)) (fours-in m fours) ms F → ⊥
+    pub unlinked-hopeless : v ≡ 1 → w ≡ 2 → Unlinked (length (L .points) / 3) (L .kept) flags → (F : List Four) → Fills (job L) (fours-in m fours) ms F → ⊥
     unfolding job
     unlinked-hopeless a b (point p h z) =
-        none-point (fours-in m fours) ms p (omega (arith, points-count ps)) (corner-none (fours-in m fours) ms p (λ k g e. off-point p k (omega arith) g (inr (e ∙ sym b)) z))
+        none-point (fours-in m fours) ms p (omega (arith, points-count (L .points))) (corner-none (fours-in m fours) ms p (λ k g e. off-point p k (omega arith) g (inr (e ∙ sym b)) z))
         (λ k g e. off-point p k (omega arith) g (inl (e ∙ sym a)) z)
     unlinked-hopeless a b (edge i h z) =
-        none-edge (fours-in m fours) ms (edge-at es i) (edge-stands (length es / 2) es i h) (edge-none (fours-in m fours) ms (edge-at es i) (λ k g e. off-edge i k h g (inr (e ∙ sym b)) z))
+        none-edge (fours-in m fours) ms (edge-at (L .kept) i) (edge-stands (length (L .kept) / 2) (L .kept) i h) (edge-none (fours-in m fours) ms (edge-at (L .kept) i) (λ k g e. off-edge i k h g (inr (e ∙ sym b)) z))
         (λ k g e. off-edge i k h g (inl (e ∙ sym a)) z)
 
     -- the set ones alone: laws 6 and 7
     pub linked-covered :
-        v ≡ 2 → w ≡ 2 → All-linked (length ps / 3) es flags → (law-6 (job (job-lists ps ts es qs)) (marked 2 (fours-in m fours) ms) && law-7 (job (job-lists ps ts es qs)) (marked 2 (fours-in m fours) ms)) ≡ true
+        v ≡ 2 → w ≡ 2 → All-linked (length (L .points) / 3) (L .kept) flags → (law-6 (job L) (marked 2 (fours-in m fours) ms) && law-7 (job L) (marked 2 (fours-in m fours) ms)) ≡ true
     linked-covered a b y =
-        covered-all ps ts es qs (marked 2 (fours-in m fours) ms)
+        covered-all L (marked 2 (fours-in m fours) ms)
         (λ p h. let r = l .yes p p (omega arith) (omega arith) (y .points p h) in corner-number (fours-in m fours) ms p (r .number) (rw (fours-in-length m fours) (r .below)) (link-number a b r) (r .from))
         (λ i h.
-        let r = l .yes (getD es (i * 2) 0) (getD es (i * 2 + 1) 0) (kept .each (i * 2) (omega arith)) (kept .each (i * 2 + 1) (omega arith)) (y .edges i h) in
-        edge-number (fours-in m fours) ms (edge-at es i) (r .number) (rw (fours-in-length m fours) (r .below)) (link-number a b r) (and-of (r .from) (r .to)))
+        let r = l .yes (getD (L .kept) (i * 2) 0) (getD (L .kept) (i * 2 + 1) 0) (kept .each (i * 2) (omega arith)) (kept .each (i * 2 + 1) (omega arith)) (y .edges i h) in
+        edge-number (fours-in m fours) ms (edge-at (L .kept) i) (r .number) (rw (fours-in-length m fours) (r .below)) (link-number a b r) (and-of (r .from) (r .to)))
 
     pub unlinked-uncovered :
-        v ≡ 2 → Unlinked (length ps / 3) es flags → (law-6 (job (job-lists ps ts es qs)) (marked 2 (fours-in m fours) ms) && law-7 (job (job-lists ps ts es qs)) (marked 2 (fours-in m fours) ms)) ≡ false
+        v ≡ 2 → Unlinked (length (L .points) / 3) (L .kept) flags → (law-6 (job L) (marked 2 (fours-in m fours) ms) && law-7 (job L) (marked 2 (fours-in m fours) ms)) ≡ false
     unlinked-uncovered a (point p h z) =
-        uncovered-point ps ts es qs (marked 2 (fours-in m fours) ms) p h (corner-none (fours-in m fours) ms p (λ k g e. off-point p k (omega arith) g (inl (e ∙ sym a)) z))
+        uncovered-point L (marked 2 (fours-in m fours) ms) p h (corner-none (fours-in m fours) ms p (λ k g e. off-point p k (omega arith) g (inl (e ∙ sym a)) z))
     unlinked-uncovered a (edge i h z) =
-        uncovered-edge ps ts es qs (marked 2 (fours-in m fours) ms) i h (edge-none (fours-in m fours) ms (edge-at es i) (λ k g e. off-edge i k h g (inl (e ∙ sym a)) z))
+        uncovered-edge L (marked 2 (fours-in m fours) ms) i h (edge-none (fours-in m fours) ms (edge-at (L .kept) i) (λ k g e. off-edge i k h g (inl (e ∙ sym a)) z))

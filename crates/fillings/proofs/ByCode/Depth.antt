@@ -5,11 +5,10 @@ use mathlib.Core.List.{List}
 use Prim.Native.Nat.{ℕ, _≤_, _<_}
 use native.Mathlib.Omega.{arith}
 use lib.ListN.{length, getD}
-use lib.IntN.{ℤ}
 use Rattle.geometry.specs.Space.{V3}
 use Rattle.geometry.specs.declared.tetrahedron.Four.{Four}
 use Rattle.laws.specs.Laws.{fours-in}
-use Rattle.laws.specs.Lists.{job-lists}
+use Rattle.laws.specs.Lists.{Lists}
 use Rattle.laws.specs.Check.{job}
 use Rattle.laws.specs.inner.NextFour.{Ordered}
 use Rattle.laws.proofs.Basics.Lists.{each-at-member}
@@ -22,19 +21,19 @@ use Rattle.fillings.proofs.Parts.Depth.{at-most-280}
 use Rattle.fillings.proofs.ByNumber.Numbers.{nth-injective, nth-member, number-marked}
 use Rattle.fillings.proofs.ByCode.Context.{context-count, context-small, context-sorted}
 
-module _ {ps : List ℤ} {ts es : List ℕ} {qs : List ℤ} {fours codes bound : List ℕ} {m : ℕ} (x : Context ps ts es qs fours codes bound m) where
+module _ {L : Lists} {fours codes bound : List ℕ} {m : ℕ} (x : Context L fours codes bound m) where
   within : {k : ℕ} → k < m → k < length (fours-in m fours)
   within {k} l = subst (λ (n : ℕ). k < n) (sym (context-count x)) l
 
   -- n different numbers of set candidates
   pub set-at-most-280 :
-      {ms : List ℕ} → Ready (job (job-lists ps ts es qs)) (fours-in m fours) ms → (number : ℕ → ℕ) (n : ℕ) → ((i : ℕ) → i < n → number i < m) →
+      {ms : List ℕ} → Ready (job L) (fours-in m fours) ms → (number : ℕ → ℕ) (n : ℕ) → ((i : ℕ) → i < n → number i < m) →
       ((i : ℕ) → i < n → getD ms (number i) 0 ≡ 2) → ((i k : ℕ) → i < k → k < n → number i ≡ number k → ⊥) → n ≤ 280
   unfolding At-most-280
   set-at-most-280 {ms} r number n below set different = at-most-280 P (λ i. nth cs (number i)) n good strange
     where
       P : List V3
-      P = job (job-lists ps ts es qs) .points
+      P = job L .points
 
       cs : List Four
       cs = fours-in m fours

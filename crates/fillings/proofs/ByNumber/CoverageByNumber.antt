@@ -1,23 +1,20 @@
 -- Laws 6 and 7 of the set candidates, by number. Assumes nothing.
 use mathlib.Core.Path.{_≡_, refl, sym, subst, ap, _∙_}
-use mathlib.Core.Bool.{true, false, _&&_, _||_}
+use mathlib.Core.Bool.{true, false, _&&_}
 use mathlib.Core.Logic.{_⊎_, inl, inr}
 use mathlib.Core.List.{List, [], _∷_}
 use Prim.Native.Nat.{ℕ, zero, suc, _+_, _*_, _/_, _<_}
 use native.Mathlib.Omega.{arith}
-use borrow.Author.Tests.{eq-eqb, ne-eqb}
-use lib.Dec.{eqb}
 use lib.ListN.{length, getD, drop}
 use lib.Seq.{getD-drop}
 use lib.IntN.{ℤ}
-use Rattle.geometry.specs.Space.{four, points-in}
+use Rattle.geometry.specs.Space.{points-in}
 use Rattle.geometry.specs.declared.tetrahedron.Four.{Four}
-use Rattle.laws.specs.Laws.{Edge, corner-of, is-corner, holds-edge, all-kept, law-6, law-7, fours-in}
-use Rattle.laws.specs.Lists.{job-lists}
+use Rattle.laws.specs.Laws.{Edge, corner-of, is-corner, holds-edge, all-kept, law-6, law-7}
+use Rattle.laws.specs.Lists.{Lists}
 use Rattle.laws.specs.Check.{job, edges-in}
 use Rattle.laws.proofs.Basics.Tests.{contradiction, and-true, and-of, true-or-false}
 use Rattle.laws.proofs.Basics.Lists.{find, any-of-member}
-use Rattle.laws.proofs.Order.Bytes.{fours-in-nth}
 use Rattle.fillings.specs.Marks.{nth, marked}
 use Rattle.fillings.proofs.Parts.Coverage.{On-edge, holds-edge-of, holds-edge-true, is-corner-of, is-corner-true, law-6-of, law-6-true}
 use Rattle.fillings.proofs.ByNumber.Numbers.{marked-number, number-marked}
@@ -29,27 +26,6 @@ points-count [] = refl
 points-count (x ∷ []) = refl
 points-count (x ∷ y ∷ []) = refl
 points-count (x ∷ y ∷ w ∷ ps) = let e = points-count ps in omega arith
-
--- ---- the corners of a candidate by its bytes
-module _ (m : ℕ) (bs : List ℕ) (k : ℕ) (l : k < m) (p : ℕ) where
-  corner-bytes :
-      corner-of p (nth (fours-in m bs) k)
-      ≡ ((eqb p (getD bs (k * 4) 0) || eqb p (getD bs (k * 4 + 1) 0)) || (eqb p (getD bs (k * 4 + 2) 0) || eqb p (getD bs (k * 4 + 3) 0)))
-  unfolding corner-of four
-  corner-bytes = ap (corner-of p) (fours-in-nth m bs k _ l)
-
-  pub on-a : p ≡ getD bs (k * 4) 0 → corner-of p (nth (fours-in m bs) k) ≡ true
-  on-a e = corner-bytes ∙ rw (eq-eqb p (getD bs (k * 4) 0) e) refl
-
-  pub on-b : (p ≡ getD bs (k * 4) 0 → ⊥) → p ≡ getD bs (k * 4 + 1) 0 → corner-of p (nth (fours-in m bs) k) ≡ true
-  on-b a e = corner-bytes ∙ rw (ne-eqb p (getD bs (k * 4) 0) a, eq-eqb p (getD bs (k * 4 + 1) 0) e) refl
-
-  pub on-c : (p ≡ getD bs (k * 4) 0 → ⊥) → (p ≡ getD bs (k * 4 + 1) 0 → ⊥) → p ≡ getD bs (k * 4 + 2) 0 → corner-of p (nth (fours-in m bs) k) ≡ true
-  on-c a b e = corner-bytes ∙ rw (ne-eqb p (getD bs (k * 4) 0) a, ne-eqb p (getD bs (k * 4 + 1) 0) b, eq-eqb p (getD bs (k * 4 + 2) 0) e) refl
-
-  pub on-d :
-      (p ≡ getD bs (k * 4) 0 → ⊥) → (p ≡ getD bs (k * 4 + 1) 0 → ⊥) → (p ≡ getD bs (k * 4 + 2) 0 → ⊥) → corner-of p (nth (fours-in m bs) k) ≡ eqb p (getD bs (k * 4 + 3) 0)
-  on-d a b c = corner-bytes ∙ rw (ne-eqb p (getD bs (k * 4) 0) a, ne-eqb p (getD bs (k * 4 + 1) 0) b, ne-eqb p (getD bs (k * 4 + 2) 0) c) refl
 
 -- ---- corners and edges by number
 pub corner-number : (cs : List Four) (ms : List ℕ) (p k : ℕ) → k < length cs → getD ms k 0 ≡ 2 → corner-of p (nth cs k) ≡ true → is-corner p (marked 2 cs ms) ≡ true
@@ -101,28 +77,28 @@ numbers-of-all-kept (suc n) es S h zero l = and-true (holds-edge (edge-at es 0) 
 numbers-of-all-kept (suc n) es S h (suc i) l =
     ap (λ (e : Edge). holds-edge e S) (sym (edge-at-drop es i)) ∙ numbers-of-all-kept n (drop 2 es) S (and-true (holds-edge (edge-at es 0) S) (all-kept (edges-in n (drop 2 es)) S) h .1) i (omega arith)
 
-module _ (ps : List ℤ) (ts es : List ℕ) (qs : List ℤ) (S : List Four) where
+module _ (L : Lists) (S : List Four) where
   pub covered-all :
-      ((p : ℕ) → p < length ps / 3 → is-corner p S ≡ true) → ((i : ℕ) → i < length es / 2 → holds-edge (edge-at es i) S ≡ true) →
-      (law-6 (job (job-lists ps ts es qs)) S && law-7 (job (job-lists ps ts es qs)) S) ≡ true
+      ((p : ℕ) → p < length (L .points) / 3 → is-corner p S ≡ true) → ((i : ℕ) → i < length (L .kept) / 2 → holds-edge (edge-at (L .kept) i) S ≡ true) →
+      (law-6 (job L) S && law-7 (job L) S) ≡ true
   unfolding job law-7
-  covered-all h k = and-of (law-6-of (job (job-lists ps ts es qs)) S (λ p l. h p (omega (arith, points-count ps)))) (all-kept-of-numbers (length es / 2) es S k)
+  covered-all h k = and-of (law-6-of (job L) S (λ p l. h p (omega (arith, points-count (L .points))))) (all-kept-of-numbers (length (L .kept) / 2) (L .kept) S k)
 
-  pub uncovered-point : (p : ℕ) → p < length ps / 3 → is-corner p S ≡ false → (law-6 (job (job-lists ps ts es qs)) S && law-7 (job (job-lists ps ts es qs)) S) ≡ false
+  pub uncovered-point : (p : ℕ) → p < length (L .points) / 3 → is-corner p S ≡ false → (law-6 (job L) S && law-7 (job L) S) ≡ false
   unfolding job law-7
-  uncovered-point p l n = go (true-or-false (law-6 (job (job-lists ps ts es qs)) S))
+  uncovered-point p l n = go (true-or-false (law-6 (job L) S))
     where
-      go : (law-6 (job (job-lists ps ts es qs)) S ≡ true) ⊎ (law-6 (job (job-lists ps ts es qs)) S ≡ false) → (law-6 (job (job-lists ps ts es qs)) S && law-7 (job (job-lists ps ts es qs)) S) ≡ false
-      go (inl e) = contradiction (law-6-true (job (job-lists ps ts es qs)) S e p (omega (arith, points-count ps))) n
+      go : (law-6 (job L) S ≡ true) ⊎ (law-6 (job L) S ≡ false) → (law-6 (job L) S && law-7 (job L) S) ≡ false
+      go (inl e) = contradiction (law-6-true (job L) S e p (omega (arith, points-count (L .points)))) n
       go (inr e) = rw e refl
 
-  pub uncovered-edge : (i : ℕ) → i < length es / 2 → holds-edge (edge-at es i) S ≡ false → (law-6 (job (job-lists ps ts es qs)) S && law-7 (job (job-lists ps ts es qs)) S) ≡ false
+  pub uncovered-edge : (i : ℕ) → i < length (L .kept) / 2 → holds-edge (edge-at (L .kept) i) S ≡ false → (law-6 (job L) S && law-7 (job L) S) ≡ false
   unfolding job law-7
-  uncovered-edge i l n = go (true-or-false (law-6 (job (job-lists ps ts es qs)) S)) (true-or-false (all-kept (edges-in (length es / 2) es) S))
+  uncovered-edge i l n = go (true-or-false (law-6 (job L) S)) (true-or-false (all-kept (edges-in (length (L .kept) / 2) (L .kept)) S))
     where
       go :
-          (law-6 (job (job-lists ps ts es qs)) S ≡ true) ⊎ (law-6 (job (job-lists ps ts es qs)) S ≡ false) → (all-kept (edges-in (length es / 2) es) S ≡ true) ⊎ (all-kept (edges-in (length es / 2) es) S ≡ false) →
-          (law-6 (job (job-lists ps ts es qs)) S && law-7 (job (job-lists ps ts es qs)) S) ≡ false
+          (law-6 (job L) S ≡ true) ⊎ (law-6 (job L) S ≡ false) → (all-kept (edges-in (length (L .kept) / 2) (L .kept)) S ≡ true) ⊎ (all-kept (edges-in (length (L .kept) / 2) (L .kept)) S ≡ false) →
+          (law-6 (job L) S && law-7 (job L) S) ≡ false
       go (inr e) d = rw e refl
-      go (inl e) (inl d) = contradiction (numbers-of-all-kept (length es / 2) es S d i l) n
+      go (inl e) (inl d) = contradiction (numbers-of-all-kept (length (L .kept) / 2) (L .kept) S d i l) n
       go (inl e) (inr d) = rw (e, d) refl

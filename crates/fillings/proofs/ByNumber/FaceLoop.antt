@@ -1,18 +1,15 @@
 -- The loop of a face over the candidates that own it. Assumes nothing.
 use mathlib.Core.Path.{_≡_, subst}
-use mathlib.Core.Bool.{Bool, false}
 use mathlib.Core.List.{List}
 use Prim.Native.Nat.{ℕ, _+_, _≤_, _<_}
 use native.Mathlib.Omega.{arith}
 use native.Mathlib.Decide.{ℕ-discrete}
-use lib.ListN.{length, getD, set}
-use lib.Seq.{getD-set-same}
+use lib.ListN.{length, getD}
 use Rattle.geometry.specs.declared.tetrahedron.Four.{Four}
 use Rattle.laws.specs.Laws.{Job}
-use Rattle.fillings.specs.Marks.{Reduced, Cornered}
+use Rattle.fillings.specs.Marks.{Reduced}
 use Rattle.fillings.specs.Codes.{Owns}
-use Rattle.fillings.proofs.ByNumber.Numbers.{mark-within}
-use Rattle.fillings.proofs.ByNumber.Reduction.{reduced-failed, reduced-refl, reduced-trans}
+use Rattle.fillings.proofs.ByNumber.Reduction.{reduced-refl, reduced-trans}
 
 -- ---- the loop: ms at its start, ns now, the first k tried
 pub record Tried (j : Job) (cs : List Four) (table : List ℕ) (c : ℕ) (ms ns : List ℕ) (k : ℕ) : Type 0 where
@@ -31,22 +28,6 @@ tried-skip {table = table} {c} {ns = ns} {k} h t = record { reduced = t .reduced
     go : (i : ℕ) → i < k + 1 → Dec (i ≡ k) → getD ns i 0 ≡ 1 → Owns table i c → ⊥
     go i b (yes e) a o = h (subst (λ (x : ℕ). getD ns x 0 ≡ 1) e a) (subst (λ (x : ℕ). Owns table x c) e o)
     go i b (no n) a o = t .tried i (omega arith) a o
-
--- one whose corner has failed
-pub tried-failed :
-    {j : Job} {cs : List Four} {table : List ℕ} {c : ℕ} {ms ns rs : List ℕ} {k : ℕ} {found : Bool} → k < length cs → getD ns k 0 ≡ 1 → found ≡ false →
-    Cornered j cs ns k found rs → Tried j cs table c ms ns k → Tried j cs table c ms (set ns k 0) (k + 1)
-tried-failed {j} {cs} {table} {c} {ms} {ns} {k = k} l a e f t = record { reduced = reduced-trans (t .reduced) d; tried = λ i b. go i b (ℕ-discrete i k) }
-  where
-    d : Reduced j cs ns (set ns k 0)
-    d = reduced-failed ns k l a e f
-
-    gone : {v : ℕ} → v ≡ 0 → v ≡ 1 → ⊥
-    gone p q = omega arith
-
-    go : (i : ℕ) → i < k + 1 → Dec (i ≡ k) → getD (set ns k 0) i 0 ≡ 1 → Owns table i c → ⊥
-    go i b (yes e) x o = gone (getD-set-same ns k 0 0 (mark-within 0 ns k a)) (subst (λ (y : ℕ). getD (set ns k 0) y 0 ≡ 1) e x)
-    go i b (no n) x o = t .tried i (omega arith) (d .fewer i (omega arith) x) o
 
 -- some dropped beside the loop: what is alive was alive
 pub tried-reduced :

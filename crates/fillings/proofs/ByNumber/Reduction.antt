@@ -1,5 +1,5 @@
 -- Dropping candidates that no filling holds, giving up, and finding, by number. Assumes nothing.
-use mathlib.Core.Path.{_≡_, refl, sym, subst, ap, _∙_}
+use mathlib.Core.Path.{_≡_, sym, subst, ap, _∙_}
 use mathlib.Core.Bool.{Bool, true, false, _&&_}
 use mathlib.Core.Logic.{_⊎_, inl, inr}
 use mathlib.Core.List.{List}
@@ -58,9 +58,6 @@ module _ {j : Job} {cs : List Four} {ms ns : List ℕ} (r : Reduced j cs ms ns) 
   -- what is found or not found afterwards is found or not found before
   pub reduced-extended : {found : Bool} {rs : List ℕ} → Extended j cs ns found rs → Extended j cs ms found rs
   reduced-extended {found} {rs} e = record { yes = λ h. reduced-back (marked 2 cs rs) (e .yes h); no = λ h F k. e .no h F (r .keeps F k) }
-
-  pub reduced-cornered-yes : {t : ℕ} {rs : List ℕ} → Cornered j cs ns t true rs → Fills j cs ms (marked 2 cs rs)
-  reduced-cornered-yes {t} {rs} e = reduced-back (marked 2 cs rs) (e .yes refl .0)
 
 -- one candidate dropped
 pub reduced-drop :

@@ -13,7 +13,7 @@ use Rattle.laws.specs.inner.Members.{here, there, In}
 use Rattle.laws.proofs.Order.Sorted.{Sorted}
 use Rattle.fillings.specs.Part.{compatible, Fit}
 use Rattle.fillings.specs.Marks.{nth, marked, live, Fills, Placed, Extended, Cornered}
-use Rattle.fillings.proofs.Parts.Extensions.{Beside, Unshared-with, Useless, extension-moved, extension-set, extension-unset}
+use Rattle.fillings.proofs.Parts.Extensions.{Beside, Unshared-with, extension-moved, extension-set, extension-unset}
 use Rattle.fillings.proofs.Parts.Steps.{fit-moved, fit-set}
 use Rattle.fillings.proofs.ByNumber.Numbers.{live-less, marked-into, marked-number, nth-injective, number-marked}
 use Rattle.fillings.proofs.ByNumber.Start.{Live}
@@ -69,10 +69,6 @@ module _ {j : Job} {cs : List Four} {t : ℕ} {ms ns : List ℕ} (l : t < length
 
   pub placed-falls : getD ms t 0 ≡ 1 → live (length cs) ns < live (length cs) ms
   placed-falls a = live-less (length cs) ms ns t l a (λ e. own-not-alive e refl) (p .fewer)
-
-  -- where nothing is left after the setting the candidate is useless
-  pub placed-useless : ((F : List Four) → Fills j cs ns F → ⊥) → Useless j (marked 2 cs ms) (Live cs ms) (nth cs t)
-  placed-useless none F e m n = none F (placed-fills F e m)
 
   -- what is found after the setting, or not
   pub cornered : Sorted cs → getD ms t 0 ≡ 1 → {found : Bool} {rs : List ℕ} → Extended j cs ns found rs → Cornered j cs ms t found rs

@@ -7,18 +7,16 @@ use Prim.Native.Nat.{ℕ, _≤_}
 use native.Mathlib.Omega.{arith}
 use lib.ListN.{length}
 use Rattle.geometry.specs.declared.tetrahedron.Four.{Four}
-use Rattle.laws.specs.Laws.{Job, all-faces, four-before, list-before, lawful, worst, Best}
+use Rattle.laws.specs.Laws.{Job, four-before, list-before, lawful, worst, Best}
 use Rattle.laws.specs.inner.Members.{Any, here, there, In}
 use Rattle.laws.proofs.Basics.Lists.{any-of-nil, find, each-at-member}
 use Rattle.laws.proofs.Choice.Conditions.{keeps}
-use Rattle.laws.proofs.Faces.Conforming.{Closed}
 use Rattle.laws.proofs.Order.FourOrder.{four-before-asym, four-before-trans, four-trichotomy}
 use Rattle.laws.proofs.Order.ListOrder.{list-before-head, list-before-tail, list-before-trans}
 use Rattle.laws.proofs.Order.Sorted.{member-or-not, Sorted, next, law-1-sorted}
-use Rattle.laws.proofs.Volume.Rigidity.{law-2-solid, closed-part-has-all}
 use Rattle.fillings.specs.Part.{Ext}
 use Rattle.fillings.proofs.Parts.Boundary.{Boundary}
-use Rattle.fillings.proofs.Parts.Extensions.{Beside, From, Without, extension-drop, extension-set, extension-start, extension-start-back, subset-filling-equal, unset-is-alive}
+use Rattle.fillings.proofs.Parts.Extensions.{Beside, From, extension-set, extension-start, extension-start-back, subset-filling-equal, unset-is-alive}
 
 -- ---- W comes before F where they agree on the fours before t, W has t, and F has a later four instead
 pub list-before-at :
@@ -152,12 +150,6 @@ first-found {j} {q} {C} {A} {W} {N} {t} b l n v e m i = record { witness = v; wo
     go F (inl k) = inl k
     go F (inr c) = inr (list-before-trans N W F (holds-least b l v (i .witness) m n) c)
 
--- it is not, and there is none with it: it is dropped
-pub first-none :
-    {j : Job} {q : ℕ} {C : List Four} {A : Four → Type 0} {W : List Four} {t : Four} → ((F : List Four) → Ext j (t ∷ C) (Beside (j .points) A t) F → ⊥) →
-    First j q C A W → First j q C (Without A t) W
-first-none {t = t} none i = first-moved (λ F e. extension-drop t (λ G g m k. none G (extension-set g m)) e) i
-
 -- what extend finds is of the right quality: all that was alive is
 pub first-worth :
     {j : Job} {q : ℕ} {F : List Four} → q ≤ 1000000 → ((G : List Four) → lawful j G ≡ true → worst j G ≤ q) → Ext j [] (From j q) F → worst j F ≡ q
@@ -188,10 +180,3 @@ only-witness-passed {j} {C} {A} {W} b none w F e = subset-filling-equal j F W b 
     go : (f : Four) → In f C ⊎ A f → In f C
     go f (inl k) = k
     go f (inr a) = absurd (none f a)
-
-pub only-witness-closed :
-    {j : Job} {C : List Four} {A : Four → Type 0} {W : List Four} → Boundary (j .triangles) → Closed (j .triangles) (all-faces (j .points) C) → Ext j C A W →
-    (F : List Four) → Ext j C A F → F ≡ W
-only-witness-closed {j} {C} {A} {W} b s w F e =
-    let k = keeps j F (e .keeps) in
-    subset-filling-equal j F W b (e .keeps) (w .keeps) (λ f m. w .holds f (closed-part-has-all j C F (b .single) (law-2-solid j F (k .l2)) (k .l4) (e .holds) s f m))

@@ -9,7 +9,7 @@ use native.Mathlib.Omega.{arith}
 use native.Mathlib.Decide.{ℕ-discrete}
 use lib.ListN.{getD}
 use Rattle.fillings.specs.Codes.{open-code}
-use Rattle.fillings.specs.Tables.{Goes-on, On-rim, Behind-set}
+use Rattle.fillings.specs.Tables.{Goes-on, On-boundary, Behind-set}
 use Rattle.fillings.proofs.ByCode.OpenCodes.{flip-flip}
 
 module _ {own bound live : List ℕ} where
@@ -71,18 +71,18 @@ module _ {own bound live : List ℕ} where
   choice-fewer h p = record { hopeless = p .hopeless; none = λ e. (p .none e .0, λ c s. p .none e .1 c (h c s)); opens = p .opens }
 
 -- ---- the boundary's faces
-pub on-rim-none : {rim : List ℕ} (c : ℕ) → On-rim rim 0 c → ⊥
-on-rim-none c o = let b = o .below in omega arith
+pub on-boundary-none : {boundary : List ℕ} (c : ℕ) → On-boundary boundary 0 c → ⊥
+on-boundary-none c o = let b = o .below in omega arith
 
-pub on-rim-next : {rim : List ℕ} {n : ℕ} (c : ℕ) → On-rim rim (n + 1) c → On-rim rim n c ⊎ (c ≡ getD rim n 0)
-on-rim-next {rim} {n} c o = go (ℕ-discrete (o .number) n)
+pub on-boundary-next : {boundary : List ℕ} {n : ℕ} (c : ℕ) → On-boundary boundary (n + 1) c → On-boundary boundary n c ⊎ (c ≡ getD boundary n 0)
+on-boundary-next {boundary} {n} c o = go (ℕ-discrete (o .number) n)
   where
-    go : Dec (o .number ≡ n) → On-rim rim n c ⊎ (c ≡ getD rim n 0)
-    go (yes e) = inr (sym (o .is) ∙ ap (λ (i : ℕ). getD rim i 0) e)
+    go : Dec (o .number ≡ n) → On-boundary boundary n c ⊎ (c ≡ getD boundary n 0)
+    go (yes e) = inr (sym (o .is) ∙ ap (λ (i : ℕ). getD boundary i 0) e)
     go (no d) = inl (record { number = o .number; below = omega (arith, o .below); is = o .is })
 
-pub on-rim-all : {rim : List ℕ} {i n : ℕ} → i ≡ n → (c : ℕ) → On-rim rim n c → On-rim rim i c
-on-rim-all {rim} {i} {n} e c o = subst (λ (k : ℕ). On-rim rim k c) (sym e) o
+pub on-boundary-all : {boundary : List ℕ} {i n : ℕ} → i ≡ n → (c : ℕ) → On-boundary boundary n c → On-boundary boundary i c
+on-boundary-all {boundary} {i} {n} e c o = subst (λ (k : ℕ). On-boundary boundary k c) (sym e) o
 
 -- ---- the reverses of a candidate's first i faces
 pub record Behind-faces (codes : List ℕ) (k i c : ℕ) : Type 0 where

@@ -6,9 +6,8 @@ use Prim.Native.Nat.{ℕ}
 use borrow.Author.Tests.{eq-eqb}
 use lib.Dec.{leb, eqb}
 use lib.ListN.{length}
-use lib.IntN.{ℤ}
 use Rattle.laws.specs.Laws.{Tri, tri, same-tri, reversed}
-use Rattle.laws.specs.Lists.{job-lists}
+use Rattle.laws.specs.Lists.{Lists}
 use Rattle.laws.specs.Check.{job, job-refusal, tri-bad, any-tri-bad, tri-taken, tris-alike}
 use Rattle.laws.specs.inner.Members.{here, there}
 use Rattle.laws.proofs.Basics.Tests.{contradiction, or-false, or-left, or-right}
@@ -55,10 +54,10 @@ boundary-one-way n (s ∷ T) h k t (there m) (here d) =
 boundary-one-way n (s ∷ T) h k t (there m) (there l) =
     boundary-one-way n T (or-false (tri-bad n s) (any-tri-bad n T) h .1) (or-false (tri-taken s T) (tris-alike T) k .1) t m l
 
-pub boundary : (ps : List ℤ) (ts es : List ℕ) (qs : List ℤ) → job-refusal (job-lists ps ts es qs) ≡ 0 → Boundary (job (job-lists ps ts es qs) .triangles)
-boundary ps ts es qs h =
-    let a = accepted (job-lists ps ts es qs) h in
-    let j = job (job-lists ps ts es qs) in
+pub boundary : (L : Lists) → job-refusal L ≡ 0 → Boundary (job L .triangles)
+boundary L h =
+    let a = accepted L h in
+    let j = job L in
     record {
       single = unlike-once (j .triangles) (a .tris-unlike);
       one-way = boundary-one-way (length (j .points)) (j .triangles) (a .tris-good) (a .tris-unlike);

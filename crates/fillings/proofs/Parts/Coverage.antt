@@ -8,9 +8,9 @@ use native.Mathlib.Omega.{arith}
 use lib.ListN.{length}
 use Rattle.geometry.specs.declared.tetrahedron.Four.{Four}
 use Rattle.laws.specs.Laws.{Job, Edge, law-6, law-7, corner-of, is-corner, corners-from, holds-edge, all-kept}
-use Rattle.laws.specs.inner.Members.{Any, here, there, In}
+use Rattle.laws.specs.inner.Members.{Any, here, there}
 use Rattle.laws.proofs.Basics.Tests.{contradiction, and-true, and-of, or-true, or-left, or-right}
-use Rattle.laws.proofs.Basics.Lists.{Each, none, more, find, any-of-member}
+use Rattle.laws.proofs.Basics.Lists.{Each, none, more}
 
 pub is-corner-true : (p : ℕ) (fs : List Four) → is-corner p fs ≡ true → Any (λ f. corner-of p f ≡ true) fs
 unfolding is-corner
@@ -83,10 +83,3 @@ law-7-true j fs h = all-kept-true (j .kept) fs h
 pub law-7-of : (j : Job) (fs : List Four) → Each (λ e. holds-edge e fs ≡ true) (j .kept) → law-7 j fs ≡ true
 unfolding law-7
 law-7-of j fs h = all-kept-of fs h
-
--- more fours cover more
-pub is-corner-subset : (p : ℕ) {S R : List Four} → ((f : Four) → In f S → In f R) → is-corner p S ≡ true → is-corner p R ≡ true
-is-corner-subset p {S} i h = let r = find (is-corner-true p S h) in is-corner-of p (any-of-member (i (r .one) (r .stands)) (r .so))
-
-pub holds-edge-subset : (e : Edge) {S R : List Four} → ((f : Four) → In f S → In f R) → holds-edge e S ≡ true → holds-edge e R ≡ true
-holds-edge-subset e {S} i h = let r = find (holds-edge-true e S h) in holds-edge-of e (any-of-member (i (r .one) (r .stands)) (r .so))

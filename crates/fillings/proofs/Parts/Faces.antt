@@ -7,7 +7,7 @@ use Rattle.laws.specs.Laws.{Tri, tri, faces}
 use Rattle.laws.specs.inner.Members.{here, there}
 use Rattle.laws.proofs.Faces.ProperFaces.{Distinct-corners}
 use Rattle.laws.proofs.Basics.Lists.{any-of-nil}
-use Rattle.laws.proofs.Faces.Triangles.{back, Same, turn-0, turn-1, turn-2, same-sym, same-back, Has, has-same, Once, empty, first}
+use Rattle.laws.proofs.Faces.Triangles.{Same, turn-0, turn-1, turn-2, Has, Once, empty, first}
 
 -- ---- a point of a triangle
 data Corner (p : ℕ) (t : Tri) : Type 0 where
@@ -31,12 +31,6 @@ not-a-corner h k l (at-a e) = h e
 not-a-corner h k l (at-b e) = k e
 not-a-corner h k l (at-c e) = l e
 
--- a triangle of three points is not its own reverse
-not-own-reverse : (x y z : ℕ) → (x ≡ y → ⊥) → (x ≡ z → ⊥) → (y ≡ z → ⊥) → Same (record { a = x; b = y; c = z }) (record { a = x; b = z; c = y }) → ⊥
-not-own-reverse x y z h k l (turn-0 e) = l (ap (λ (s : Tri). s .b) e)
-not-own-reverse x y z h k l (turn-1 e) = k (ap (λ (s : Tri). s .a) e)
-not-own-reverse x y z h k l (turn-2 e) = h (ap (λ (s : Tri). s .a) e)
-
 -- ---- the four faces
 module _ (f : Four) (u : Distinct-corners f) where
   -- which point a face lacks
@@ -48,9 +42,6 @@ module _ (f : Four) (u : Distinct-corners f) where
 
   no-b : {s : Tri} → Corner (f .b) s → Same (record { a = f .a; b = f .d; c = f .c }) s → ⊥
   no-b q e = not-a-corner (λ x. u .ab (sym x)) (λ x. u .bd x) (λ x. u .bc x) (same-corner e q)
-
-  no-a : {s : Tri} → Corner (f .a) s → Same (record { a = f .b; b = f .c; c = f .d }) s → ⊥
-  no-a q e = not-a-corner (λ x. u .ab x) (λ x. u .ac x) (λ x. u .ad x) (same-corner e q)
 
   pub faces-once : Once (faces f)
   unfolding faces tri
@@ -67,34 +58,3 @@ module _ (f : Four) (u : Distinct-corners f) where
 
       three : Has (tri (f .a) (f .d) (f .c)) (tri (f .b) (f .c) (f .d) ∷ []) → ⊥
       three (here e) = no-b (at-a refl) e
-
-  pub faces-no-reverse : (t : Tri) → Has t (faces f) → Has (back t) (faces f) → ⊥
-  unfolding faces tri
-  faces-no-reverse t (here e) m = go (has-same (same-back (same-sym e)) m)
-    where
-      go : Has (record { a = f .a; b = f .b; c = f .c }) (faces f) → ⊥
-      go (here k) = not-own-reverse (f .a) (f .b) (f .c) (u .ab) (u .ac) (u .bc) k
-      go (there (here k)) = no-c (at-c refl) (same-sym k)
-      go (there (there (here k))) = no-b (at-b refl) (same-sym k)
-      go (there (there (there (here k)))) = no-a (at-a refl) (same-sym k)
-  faces-no-reverse t (there (here e)) m = go (has-same (same-back (same-sym e)) m)
-    where
-      go : Has (record { a = f .a; b = f .d; c = f .b }) (faces f) → ⊥
-      go (here k) = no-d (at-b refl) (same-sym k)
-      go (there (here k)) = not-own-reverse (f .a) (f .d) (f .b) (u .ad) (u .ab) (λ x. u .bd (sym x)) k
-      go (there (there (here k))) = no-b (at-c refl) (same-sym k)
-      go (there (there (there (here k)))) = no-a (at-a refl) (same-sym k)
-  faces-no-reverse t (there (there (here e))) m = go (has-same (same-back (same-sym e)) m)
-    where
-      go : Has (record { a = f .a; b = f .c; c = f .d }) (faces f) → ⊥
-      go (here k) = no-d (at-c refl) (same-sym k)
-      go (there (here k)) = no-c (at-b refl) (same-sym k)
-      go (there (there (here k))) = not-own-reverse (f .a) (f .c) (f .d) (u .ac) (u .ad) (u .cd) k
-      go (there (there (there (here k)))) = no-a (at-a refl) (same-sym k)
-  faces-no-reverse t (there (there (there (here e)))) m = go (has-same (same-back (same-sym e)) m)
-    where
-      go : Has (record { a = f .b; b = f .d; c = f .c }) (faces f) → ⊥
-      go (here k) = no-d (at-b refl) (same-sym k)
-      go (there (here k)) = no-c (at-c refl) (same-sym k)
-      go (there (there (here k))) = no-b (at-a refl) (same-sym k)
-      go (there (there (there (here k)))) = not-own-reverse (f .b) (f .d) (f .c) (u .bd) (u .bc) (λ x. u .cd (sym x)) k

@@ -1,6 +1,6 @@
 -- The kept-edge filter: no four of a lawful filling has a face that a kept edge runs through. Laws 5 and 7 alone say so. Assumes nothing.
 use mathlib.Core.Path.{_≡_, refl, sym, ap, _∙_}
-use mathlib.Core.Bool.{Bool, true, false, _||_, cond}
+use mathlib.Core.Bool.{Bool, true, false, _||_}
 use mathlib.Core.Logic.{_⊎_, inl, inr}
 use mathlib.Core.List.{List, [], _∷_}
 use Prim.Native.Nat.{ℕ}
@@ -13,7 +13,7 @@ use Rattle.laws.specs.inner.Members.{Any, here, there, In}
 use Rattle.laws.proofs.Basics.Tests.{contradiction, and-true, or-true, or-left, or-right, true-or-false}
 use Rattle.laws.proofs.Basics.Lists.{Each, find, any-of-nil, each-at-member}
 use Rattle.laws.proofs.Choice.Conditions.{keeps}
-use Rattle.fillings.specs.Pierce.{pierces, pierces-four, pierced, unpierced}
+use Rattle.fillings.specs.Pierce.{pierces, pierces-four, pierced}
 use Rattle.fillings.proofs.Parts.Pairs.{apart-all-true}
 use Rattle.fillings.proofs.Parts.Coverage.{all-kept-true, holds-edge-true}
 use Rattle.fillings.proofs.Piercing.NotApart.{not-apart, not-apart-back, not-one}
@@ -117,17 +117,3 @@ module _ (j : Job) (F : List Four) (l5 : law-5 j F ≡ true) (l7 : law-7 j F ≡
 -- THE FILTER
 pub pierced-never : (j : Job) (F : List Four) → lawful j F ≡ true → (t : Four) → In t F → pierced (j .points) (j .kept) t ≡ false
 pierced-never j F h = let k = keeps j F h in none-pierced j F (k .l5) (k .l7)
-
--- dropping them from a list of fours drops none of a lawful filling
-pub unpierced-keeps : (ps : List V3) (es : List Edge) (t : Four) (ts : List Four) → pierced ps es t ≡ false → In t ts → In t (unpierced ps es ts)
-unfolding unpierced
-unpierced-keeps ps es t (s ∷ ts) h (here e) = rw (ap (pierced ps es) (sym e) ∙ h) (here e)
-unpierced-keeps ps es t (s ∷ ts) h (there m) = go (pierced ps es s) (unpierced-keeps ps es t ts h m)
-  where
-    go : (b : Bool) → In t (unpierced ps es ts) → In t (cond b (unpierced ps es ts) (s ∷ unpierced ps es ts))
-    go true k = k
-    go false k = there k
-
-pub candidates-stay :
-    (j : Job) (F cs : List Four) → lawful j F ≡ true → ((t : Four) → In t F → In t cs) → (t : Four) → In t F → In t (unpierced (j .points) (j .kept) cs)
-candidates-stay j F cs h all t m = unpierced-keeps (j .points) (j .kept) t cs (pierced-never j F h t m) (all t m)

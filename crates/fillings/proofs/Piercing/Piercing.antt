@@ -1,48 +1,48 @@
 -- What the functions that test for piercing have computed, against specs/Pierce.antt: faces, and the loop over the kept edges. Assumes nothing.
-use mathlib.Core.Path.{_≡_, refl, ap}
-use mathlib.Core.Bool.{true, false}
+use mathlib.Core.Path.{_≡_, refl, sym, ap, _∙_}
+use mathlib.Core.Bool.{Bool, true, false}
 use mathlib.Core.List.{List}
 use Prim.Native.Nat.{ℕ, _+_, _-_, _/_, _≤_, _<_}
 use native.Mathlib.Omega.{arith}
 use lib.ListN.{length}
-use lib.IntN.{ℤ}
 use Rattle.geometry.specs.Space.{V3}
 use Rattle.geometry.specs.declared.tetrahedron.Four.{Four}
 use Rattle.laws.specs.Laws.{Edge}
-use Rattle.laws.specs.Lists.{job-lists}
+use Rattle.laws.specs.Lists.{Lists}
 use Rattle.laws.specs.Check.{job, edges-in}
 use Rattle.laws.specs.inner.Listed.{edge-at, edges-from}
 use Rattle.laws.proofs.Basics.Scan.{Step}
 use Rattle.laws.proofs.Checker.Rest.{edges-start, edges-more}
 use Rattle.fillings.specs.Pierce.{pierces, pierces-four, pierced}
 
--- ---- one face after the other
+-- ---- one face after the other: r, s and u are what the tests of the faces answered
 module _ (ps : List V3) (a b : ℕ) (f : Four) where
-  pub pierces-abc : pierces ps a b (f .a) (f .b) (f .c) ≡ true → true ≡ pierces-four ps a b f
+  pub pierces-abc : {r : Bool} → r ≡ pierces ps a b (f .a) (f .b) (f .c) → r ≡ true → true ≡ pierces-four ps a b f
   unfolding pierces-four
-  pierces-abc h = rw h refl
+  pierces-abc d h = rw (sym d ∙ h) refl
 
-  pub pierces-abd : pierces ps a b (f .a) (f .b) (f .c) ≡ false → pierces ps a b (f .a) (f .b) (f .d) ≡ true → true ≡ pierces-four ps a b f
+  pub pierces-abd :
+      {r s : Bool} → r ≡ pierces ps a b (f .a) (f .b) (f .c) → r ≡ false → s ≡ pierces ps a b (f .a) (f .b) (f .d) → s ≡ true → true ≡ pierces-four ps a b f
   unfolding pierces-four
-  pierces-abd g h = rw (g, h) refl
+  pierces-abd d g e h = rw (sym d ∙ g, sym e ∙ h) refl
 
   pub pierces-acd :
-      pierces ps a b (f .a) (f .b) (f .c) ≡ false → pierces ps a b (f .a) (f .b) (f .d) ≡ false → pierces ps a b (f .a) (f .c) (f .d) ≡ true →
-      true ≡ pierces-four ps a b f
+      {r s u : Bool} → r ≡ pierces ps a b (f .a) (f .b) (f .c) → r ≡ false → s ≡ pierces ps a b (f .a) (f .b) (f .d) → s ≡ false →
+      u ≡ pierces ps a b (f .a) (f .c) (f .d) → u ≡ true → true ≡ pierces-four ps a b f
   unfolding pierces-four
-  pierces-acd g h i = rw (g, h, i) refl
+  pierces-acd d g e h k i = rw (sym d ∙ g, sym e ∙ h, sym k ∙ i) refl
 
   pub last-face-decides :
-      pierces ps a b (f .a) (f .b) (f .c) ≡ false → pierces ps a b (f .a) (f .b) (f .d) ≡ false → pierces ps a b (f .a) (f .c) (f .d) ≡ false →
-      pierces ps a b (f .b) (f .c) (f .d) ≡ pierces-four ps a b f
+      {r s u v : Bool} → r ≡ pierces ps a b (f .a) (f .b) (f .c) → r ≡ false → s ≡ pierces ps a b (f .a) (f .b) (f .d) → s ≡ false →
+      u ≡ pierces ps a b (f .a) (f .c) (f .d) → u ≡ false → v ≡ pierces ps a b (f .b) (f .c) (f .d) → v ≡ pierces-four ps a b f
   unfolding pierces-four
-  last-face-decides g h i = rw (g, h, i) refl
+  last-face-decides d g e h k i l = l ∙ rw (sym d ∙ g, sym e ∙ h, sym k ∙ i) refl
 
 -- ---- one kept edge after the other
 module _ (ps : List V3) (f : Four) where
-  pub pierced-start : (cs : List ℤ) (ts es : List ℕ) (qs : List ℤ) → pierced ps (job (job-lists cs ts es qs) .kept) f ≡ pierced ps (edges-from es 0) f
+  pub pierced-start : (L : Lists) → pierced ps (job L .kept) f ≡ pierced ps (edges-from (L .kept) 0) f
   unfolding job
-  pierced-start cs ts es qs = ap (λ (xs : List Edge). pierced ps xs f) (edges-start es)
+  pierced-start L = ap (λ (xs : List Edge). pierced ps xs f) (edges-start (L .kept))
 
   pub pierced-step :
       (es : List ℕ) (i : ℕ) → i < length es / 2 →

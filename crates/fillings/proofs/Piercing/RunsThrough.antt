@@ -1,12 +1,10 @@
 -- An edge ab that runs through a triangle xyw, and a direction along which a and b are at most x, y and w, or at least: the direction is zero. Assumes nothing.
 use mathlib.Core.Path.{_≡_, refl, sym, ap, _∙_}
-use mathlib.Core.Bool.{true, _&&_, _||_}
+use mathlib.Core.Bool.{true}
 use mathlib.Core.Logic.{_⊎_, inl, inr}
 use mathlib.Core.List.{[]}
-use lib.IntN.{pos, +ℤ-invr}
-use lib.Signed.{ltZ}
-use Rattle.geometry.specs.Space.{V3, det, is-zero, zero-z, value}
-use Rattle.geometry.proofs.Numbers.Value.{value-above}
+use lib.IntN.{+ℤ-invr}
+use Rattle.geometry.specs.Space.{V3, det, is-zero, value}
 use Rattle.geometry.proofs.Numbers.Ring.{_⊖_, ring, v}
 use Rattle.geometry.proofs.Space.Volume.{Positive}
 use Rattle.laws.proofs.Basics.Tests.{and-true}
@@ -115,17 +113,3 @@ through a b x y w h =
     go (inl s) (inr t) = through-reversed (sides-turns-through b a x y w s t)
     go (inr s) (inl t) = sides-turns-through a b x y w s t
     go (inr s) (inr t) = absurd (sides-against-turns b a x y w s t)
-
--- the test by whole numbers, for code that compares those
-value-zero : value zero-z ≡ pos 0
-unfolding value
-value-zero = refl
-
-pub runs-through-by-values :
-    (a b x y w : V3) →
-    runs-through a b x y w ≡
-    (((ltZ (pos 0) (value (det x y w a)) && ltZ (value (det x y w b)) (pos 0)) || (ltZ (value (det x y w a)) (pos 0) && ltZ (pos 0) (value (det x y w b))))
-    && ((ltZ (pos 0) (value (det a b x y)) && (ltZ (pos 0) (value (det a b y w)) && ltZ (pos 0) (value (det a b w x))))
-    || (ltZ (value (det a b x y)) (pos 0) && (ltZ (value (det a b y w)) (pos 0) && ltZ (value (det a b w x)) (pos 0)))))
-unfolding runs-through opposite all-one-sign
-runs-through-by-values a b x y w = simp (value-above, value-zero)

@@ -15,7 +15,7 @@ use mir.Facts.{toZ-ofZ}
 use Rattle.geometry.specs.Space.{V3, points-in, turned}
 use Rattle.geometry.specs.declared.tetrahedron.Four.{Four}
 use Rattle.laws.specs.Laws.{tri, place, entry, quality}
-use Rattle.laws.specs.Lists.{job-lists}
+use Rattle.laws.specs.Lists.{Lists}
 use Rattle.laws.specs.Check.{job}
 use Rattle.laws.proofs.Basics.Tests.{contradiction}
 use Rattle.laws.specs.inner.FaceCodes.{face-code}
@@ -49,38 +49,38 @@ pub entry-cast : {v : ℤ} → SFits w32 v → leZ (read-back v) (pos 0) ≡ fal
 entry-cast {v} f h = let e = toZ-ofZ f in let g : leZ v (pos 0) ≡ false = rw e at h in rw e (positive v g .sign, fits-positive v f g)
 
 -- ---- the entry of f
-module _ (ps : List ℤ) (ts es : List ℕ) (qs : List ℤ) (q n : ℕ) (f : Four) {v : ℤ} (points : n ≡ length (points-in ps)) (is : v ≡ getD qs (place n f) (negsuc 0)) (fit : SFits w32 v) where
-  entry-is : v ≡ entry (job (job-lists ps ts es qs)) f
+module _ (L : Lists) (q n : ℕ) (f : Four) {v : ℤ} (points : n ≡ length (points-in (L .points))) (is : v ≡ getD (L .table) (place n f) (negsuc 0)) (fit : SFits w32 v) where
+  entry-is : v ≡ entry (job L) f
   unfolding entry job
-  entry-is = is ∙ ap (λ (m : ℕ). getD qs (place m f) (negsuc 0)) points
+  entry-is = is ∙ ap (λ (m : ℕ). getD (L .table) (place m f) (negsuc 0)) points
 
   pub passed-low :
-      leZ (read-back v) (pos 0) ≡ true → 0 < q → candidate (job (job-lists ps ts es qs)) f ≡ true → q ≤ quality (entry (job (job-lists ps ts es qs)) f) → ⊥
+      leZ (read-back v) (pos 0) ≡ true → 0 < q → candidate (job L) f ≡ true → q ≤ quality (entry (job L) f) → ⊥
   passed-low h p c l = let z = not-positive v (rw (toZ-ofZ fit) at h) in let e = ap quality entry-is in omega arith
 
   module _ (h : leZ (read-back v) (pos 0) ≡ false) where
-    pub entry-size : natAbs (read-back v) ≡ quality (entry (job (job-lists ps ts es qs)) f)
+    pub entry-size : natAbs (read-back v) ≡ quality (entry (job L) f)
     entry-size = rw (toZ-ofZ fit) (positive v (rw (toZ-ofZ fit) at h) .size ∙ ap quality entry-is)
 
-    entry-above : 0 < quality (entry (job (job-lists ps ts es qs)) f)
+    entry-above : 0 < quality (entry (job L) f)
     entry-above = let e = ap quality entry-is in let z = positive v (rw (toZ-ofZ fit) at h) .above-zero in omega arith
 
-    pub passed-under : natAbs (read-back v) < q → candidate (job (job-lists ps ts es qs)) f ≡ true → q ≤ quality (entry (job (job-lists ps ts es qs)) f) → ⊥
+    pub passed-under : natAbs (read-back v) < q → candidate (job L) f ≡ true → q ≤ quality (entry (job L) f) → ⊥
     passed-under l c k = let e = entry-size in omega arith
 
-    module _ {r : Bool} (says : 0 < quality (entry (job (job-lists ps ts es qs)) f) → r ≡ candidate (job (job-lists ps ts es qs)) f) where
-      pub stands : not r ≡ false → candidate (job (job-lists ps ts es qs)) f ≡ true
+    module _ {r : Bool} (says : 0 < quality (entry (job L) f) → r ≡ candidate (job L) f) where
+      pub stands : not r ≡ false → candidate (job L) f ≡ true
       stands e = sym (says entry-above) ∙ not-false r e
 
-      pub passed-not : not r ≡ true → candidate (job (job-lists ps ts es qs)) f ≡ true → q ≤ quality (entry (job (job-lists ps ts es qs)) f) → ⊥
+      pub passed-not : not r ≡ true → candidate (job L) f ≡ true → q ≤ quality (entry (job L) f) → ⊥
       passed-not e c k = contradiction {A = ⊥} c (sym (says entry-above) ∙ not-true r e)
 
 pub considered-filed :
-    (ps : List ℤ) (ts es : List ℕ) (qs : List ℤ) (q : ℕ) {f : Four} {fours codes quals fours2 codes2 quals2 : List ℕ} {k w : ℕ} → candidate (job (job-lists ps ts es qs)) f ≡ true →
-    fours2 ≡ put-four k (f .a) (f .b) (f .c) (f .d) fours → codes2 ≡ put-faces k (turned (points-in ps) f) codes → quals2 ≡ set quals k w → w ≡ quality (entry (job (job-lists ps ts es qs)) f) →
-    Considered (job (job-lists ps ts es qs)) q f fours codes quals k fours2 codes2 quals2 (k + 1)
+    (L : Lists) (q : ℕ) {f : Four} {fours codes qualities fours2 codes2 qualities2 : List ℕ} {k w : ℕ} → candidate (job L) f ≡ true →
+    fours2 ≡ put-four k (f .a) (f .b) (f .c) (f .d) fours → codes2 ≡ put-faces k (turned (points-in (L .points)) f) codes → qualities2 ≡ set qualities k w → w ≡ quality (entry (job L) f) →
+    Considered (job L) q f fours codes qualities k fours2 codes2 qualities2 (k + 1)
 unfolding job
-considered-filed ps ts es qs q y a b c e = rw (a, b, c, e) (filed y)
+considered-filed L q y a b c e = rw (a, b, c, e) (filed y)
 
 -- ---- what is filed
 pub codes-written :

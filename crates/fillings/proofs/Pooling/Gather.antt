@@ -1,18 +1,18 @@
 -- Gathering the candidates in order: four nested loops over rising numbers pass every four of present points. Assumes nothing.
 use mathlib.Core.Path.{_≡_, refl, sym, subst, ap, _∙_}
-use mathlib.Core.Bool.{Bool, true, _&&_, _||_}
+use mathlib.Core.Bool.{true}
 use mathlib.Core.Logic.{_⊎_, inl, inr}
 use mathlib.Core.List.{List, [], _∷_, _++_}
 use Prim.Native.Nat.{ℕ, _+_, _<_, _≤_}
 use native.Mathlib.Omega.{arith}
 use native.Mathlib.Decide.{decLt}
-use borrow.Author.Tests.{ltb-true, lt-ltb, eqb-true, eq-eqb}
-use lib.Dec.{ltb, eqb}
+use borrow.Author.Tests.{lt-ltb, eq-eqb}
+use lib.Dec.{ltb}
 use lib.ListN.{length}
 use Rattle.geometry.specs.declared.tetrahedron.Four.{Four}
 use Rattle.laws.specs.Laws.{Job, entry, quality, four-before}
 use Rattle.laws.specs.inner.Members.{here, In}
-use Rattle.laws.proofs.Basics.Tests.{and-true, and-of, or-true, or-left, or-right}
+use Rattle.laws.proofs.Basics.Tests.{and-of, or-left, or-right}
 use Rattle.laws.proofs.Basics.Lists.{Each, none, more, any-of-nil, any-append-left, any-append-right, any-append-cases, each-at-member, each-of-members}
 use Rattle.laws.proofs.Order.FourOrder.{four-equal}
 use Rattle.laws.proofs.Order.Sorted.{Sorted, start, next, Well-formed, increasing, sorted-law-1}
@@ -28,28 +28,6 @@ pub data Before (g f : Four) : Type 0 where
   at-b : g .a ≡ f .a → g .b < f .b → Before g f
   at-c : g .a ≡ f .a → g .b ≡ f .b → g .c < f .c → Before g f
   at-d : g .a ≡ f .a → g .b ≡ f .b → g .c ≡ f .c → g .d < f .d → Before g f
-
-pub four-before-true : (g f : Four) → four-before g f ≡ true → Before g f
-unfolding four-before
-four-before-true g f h = one (or-true (ltb (g .a) (f .a)) (eqb (g .a) (f .a) && two) h)
-  where
-    three : Bool
-    three = ltb (g .c) (f .c) || (eqb (g .c) (f .c) && ltb (g .d) (f .d))
-
-    two : Bool
-    two = ltb (g .b) (f .b) || (eqb (g .b) (f .b) && three)
-
-    last : g .a ≡ f .a → g .b ≡ f .b → (ltb (g .c) (f .c) ≡ true) ⊎ ((eqb (g .c) (f .c) && ltb (g .d) (f .d)) ≡ true) → Before g f
-    last p q (inl l) = at-c p q (ltb-true (g .c) (f .c) l)
-    last p q (inr l) = let r = and-true (eqb (g .c) (f .c)) (ltb (g .d) (f .d)) l in at-d p q (eqb-true (g .c) (f .c) (r .0)) (ltb-true (g .d) (f .d) (r .1))
-
-    mid : g .a ≡ f .a → (ltb (g .b) (f .b) ≡ true) ⊎ ((eqb (g .b) (f .b) && three) ≡ true) → Before g f
-    mid p (inl l) = at-b p (ltb-true (g .b) (f .b) l)
-    mid p (inr l) = let r = and-true (eqb (g .b) (f .b)) three l in last p (eqb-true (g .b) (f .b) (r .0)) (or-true (ltb (g .c) (f .c)) (eqb (g .c) (f .c) && ltb (g .d) (f .d)) (r .1))
-
-    one : (ltb (g .a) (f .a) ≡ true) ⊎ ((eqb (g .a) (f .a) && two) ≡ true) → Before g f
-    one (inl l) = at-a (ltb-true (g .a) (f .a) l)
-    one (inr l) = let r = and-true (eqb (g .a) (f .a)) two l in mid (eqb-true (g .a) (f .a) (r .0)) (or-true (ltb (g .b) (f .b)) (eqb (g .b) (f .b) && three) (r .1))
 
 pub four-before-of : {g f : Four} → Before g f → four-before g f ≡ true
 unfolding four-before

@@ -6,11 +6,10 @@ use Prim.Native.Nat.{ℕ, _<_}
 use borrow.Author.Tests.{lt-ltb}
 use lib.Dec.{ltb}
 use lib.ListN.{length, getD}
-use lib.IntN.{ℤ}
 use Rattle.geometry.specs.Space.{V3, points-in, solid, turned}
 use Rattle.geometry.specs.declared.tetrahedron.Four.{Four}
 use Rattle.laws.specs.Laws.{Job, tri, rising, entry, quality, none-inside, interior-empty, faces}
-use Rattle.laws.specs.Lists.{job-lists}
+use Rattle.laws.specs.Lists.{Lists}
 use Rattle.laws.specs.Check.{job, job-refusal}
 use Rattle.laws.proofs.Basics.Tests.{and-of}
 use Rattle.laws.proofs.Basics.Lists.{Each}
@@ -23,7 +22,7 @@ use Rattle.fillings.specs.Pierce.{pierced}
 use Rattle.fillings.specs.Part.{reverses, candidate}
 use Rattle.fillings.specs.Codes.{Bound-flags}
 use Rattle.fillings.proofs.ByCode.BoundaryFlags.{reverses-by-flags}
-use Rattle.fillings.proofs.ByCode.RimFlags.{accepted-points-few}
+use Rattle.fillings.proofs.ByCode.BoundaryCodes.{accepted-points-few}
 
 -- no point inside the four as it was turned
 pub none-inside-turned : (ps : List V3) (f : Four) {g : Four} {r : Bool} → g ≡ turned ps f → r ≡ not (none-inside ps g ps) → not r ≡ interior-empty ps f
@@ -53,22 +52,22 @@ by-fifth : (a b c r p : Bool) → a ≡ true → b ≡ true → c ≡ true → r
 by-fifth a b c r p e g h k = rw (e, g, h, k) refl
 
 -- ---- a four of an accepted job, and the boundary as flags
-pub record Ground (ps : List ℤ) (ts es : List ℕ) (qs : List ℤ) (bnd : List ℕ) (f : Four) : Type 0 where
-  pub ok : job-refusal (job-lists ps ts es qs) ≡ 0
-  pub flags : Bound-flags (job (job-lists ps ts es qs) .triangles) bnd
-  pub stage : Ordered (length (points-in ps)) f
+pub record Ground (L : Lists) (bnd : List ℕ) (f : Four) : Type 0 where
+  pub ok : job-refusal L ≡ 0
+  pub flags : Bound-flags (job L .triangles) bnd
+  pub stage : Ordered (length (points-in (L .points))) f
 
 pub ground :
-    (ps : List ℤ) (ts es : List ℕ) (qs : List ℤ) (bnd : List ℕ) (f : Four) {n : ℕ} → job-refusal (job-lists ps ts es qs) ≡ 0 →
-    Bound-flags (job (job-lists ps ts es qs) .triangles) bnd → n ≡ length (points-in ps) → Ordered n f → Ground ps ts es qs bnd f
-ground ps ts es qs bnd f ok flags e s = record { ok = ok; flags = flags; stage = subst (λ (k : ℕ). Ordered k f) e s }
+    (L : Lists) (bnd : List ℕ) (f : Four) {n : ℕ} → job-refusal L ≡ 0 →
+    Bound-flags (job L .triangles) bnd → n ≡ length (points-in (L .points)) → Ordered n f → Ground L bnd f
+ground L bnd f ok flags e s = record { ok = ok; flags = flags; stage = subst (λ (k : ℕ). Ordered k f) e s }
 
-module _ {ps : List ℤ} {ts es : List ℕ} {qs : List ℤ} {bnd : List ℕ} {f : Four} (w : Ground ps ts es qs bnd f) where
+module _ {L : Lists} {bnd : List ℕ} {f : Four} (w : Ground L bnd f) where
   abbrev P : List V3
-  P = points-in ps
+  P = points-in (L .points)
 
   abbrev J : Job
-  J = job (job-lists ps ts es qs)
+  J = job L
 
   good : Well-formed (length P) f
   unfolding rising
@@ -96,28 +95,29 @@ module _ {ps : List ℤ} {ts es : List ℕ} {qs : List ℤ} {bnd : List ℕ} {f 
   unfolding candidate job
   flat-cannot h = by-second in-order (solid P f) of-worth empty backs cut h
 
-  pub backing-cannot : backs ≡ true → false ≡ candidate J f
+  pub backing-cannot : {r : Bool} → backs ≡ r → r ≡ true → false ≡ candidate J f
   unfolding candidate job
-  backing-cannot h = by-fourth in-order (solid P f && of-worth) empty backs cut h
+  backing-cannot d h = by-fourth in-order (solid P f && of-worth) empty backs cut (d ∙ h)
 
   pub crowded-cannot : empty ≡ false → false ≡ candidate J f
   unfolding candidate job
   crowded-cannot h = by-third in-order (solid P f && of-worth) empty (not backs && not cut) h
 
-  pub piercing-decides : solid P f ≡ true → 0 < quality (entry J f) → backs ≡ false → empty ≡ true → not cut ≡ candidate J f
+  pub piercing-decides :
+      {r v : Bool} → solid P f ≡ true → 0 < quality (entry J f) → backs ≡ r → r ≡ false → empty ≡ true → v ≡ cut → not v ≡ candidate J f
   unfolding candidate job
-  piercing-decides s q b e =
-      by-fifth in-order (solid P f && of-worth) empty backs cut (and-of (good .up) (lt-ltb (f .d) (length P) (good .below)))
-      (and-of s (lt-ltb 0 (quality (entry J f)) q)) e b
+  piercing-decides s q d b e k =
+      ap not k ∙ by-fifth in-order (solid P f && of-worth) empty backs cut (and-of (good .up) (lt-ltb (f .d) (length P) (good .below)))
+      (and-of s (lt-ltb 0 (quality (entry J f)) q)) e (d ∙ b)
 
   -- whether a face backs the boundary, by the numbers of the faces
   pub backing-by-flags :
-      {g : Four} → g ≡ turned (points-in ps) f → (a b c d : ℕ) → a ≡ face-code (tri (g .a) (g .c) (g .b)) → b ≡ face-code (tri (g .a) (g .b) (g .d)) →
-      c ≡ face-code (tri (g .a) (g .d) (g .c)) → d ≡ face-code (tri (g .b) (g .c) (g .d)) →
-      backs ≡ (ltb 0 (getD bnd (flip-code a) 0) || (ltb 0 (getD bnd (flip-code b) 0) || (ltb 0 (getD bnd (flip-code c) 0) || ltb 0 (getD bnd (flip-code d) 0))))
+      {g : Four} → g ≡ turned (points-in (L .points)) f → (a b c d : ℕ) → a ≡ face-code (tri (g .a) (g .c) (g .b)) → b ≡ face-code (tri (g .a) (g .b) (g .d)) →
+      c ≡ face-code (tri (g .a) (g .d) (g .c)) → d ≡ face-code (tri (g .b) (g .c) (g .d)) → {v : Bool} →
+      v ≡ (ltb 0 (getD bnd (flip-code a) 0) || (ltb 0 (getD bnd (flip-code b) 0) || (ltb 0 (getD bnd (flip-code c) 0) || ltb 0 (getD bnd (flip-code d) 0)))) → backs ≡ v
   unfolding job
-  backing-by-flags {g} t a b c d p q r u =
-      let few = accepted-points-few ps ts es qs (w .ok) in
+  backing-by-flags {g} t a b c d p q r u e =
+      let few = accepted-points-few L (w .ok) in
       let proper : Each Proper (faces g) = subst (λ (x : Four). Each Proper (faces x)) (sym t) (faces-proper (length P) P f few good) in
-      let rim : Each Proper (J .triangles) = boundary-proper (length P) (J .triangles) few (accepted (job-lists ps ts es qs) (w .ok) .tris-good) in
-      ap (λ (x : Four). reverses (faces x) (J .triangles)) (sym t) ∙ reverses-by-flags rim (w .flags) g proper a b c d p q r u
+      let good-boundary : Each Proper (J .triangles) = boundary-proper (length P) (J .triangles) few (accepted L (w .ok) .tris-good) in
+      ap (λ (x : Four). reverses (faces x) (J .triangles)) (sym t) ∙ reverses-by-flags good-boundary (w .flags) g proper a b c d p q r u ∙ sym e

@@ -14,7 +14,7 @@ use Rattle.laws.specs.Laws.{Job, entry, quality, tri, faces, fours-in}
 use Rattle.laws.specs.inner.FaceCodes.{face-code}
 use Rattle.fillings.specs.Marks.{nth}
 use Rattle.fillings.specs.Codes.{Face-table}
-use Rattle.fillings.specs.Tables.{Qualities, All-below}
+use Rattle.fillings.specs.Tables.{Qualities}
 use Rattle.fillings.specs.Filing.{put-four, put-faces, copied}
 
 -- ---- four numbers written
@@ -165,34 +165,16 @@ faces-copied {ps} {bs} {cs} {from} {codes} i k h e l s t =
 
 -- ---- qualities
 pub qualities-put :
-    {j : Job} {cs : List Four} {quals : List ℕ} (f : Four) (k v : ℕ) → length cs ≡ k → k < length quals → v ≡ quality (entry j f) → Qualities j cs quals →
-    Qualities j (cs ++ (f ∷ [])) (set quals k v)
-qualities-put {j} {cs} {quals} f k v count long p t =
+    {j : Job} {cs : List Four} {qualities : List ℕ} (f : Four) (k v : ℕ) → length cs ≡ k → k < length qualities → v ≡ quality (entry j f) → Qualities j cs qualities →
+    Qualities j (cs ++ (f ∷ [])) (set qualities k v)
+qualities-put {j} {cs} {qualities} f k v count long p t =
     record {
-      long = omega (arith, length-set quals k v, length-more cs f);
+      long = omega (arith, length-set qualities k v, length-more cs f);
       each = λ i l. at i (below-last i k (omega (arith, length-more cs f)));
     }
   where
-    at : (i : ℕ) → (i < k) ⊎ (i ≡ k) → getD (set quals k v) i 0 ≡ quality (entry j (nth (cs ++ (f ∷ [])) i))
-    at i (inl l) = getD-set-other quals k i v 0 (λ e. omega arith) ∙ t .each i (omega arith) ∙ ap (λ (g : Four). quality (entry j g)) (sym (nth-old cs f i (omega arith)))
+    at : (i : ℕ) → (i < k) ⊎ (i ≡ k) → getD (set qualities k v) i 0 ≡ quality (entry j (nth (cs ++ (f ∷ [])) i))
+    at i (inl l) = getD-set-other qualities k i v 0 (λ e. omega arith) ∙ t .each i (omega arith) ∙ ap (λ (g : Four). quality (entry j g)) (sym (nth-old cs f i (omega arith)))
     at i (inr e) =
-        ap (λ (x : ℕ). getD (set quals k v) x 0) e ∙ getD-set-same quals k v 0 long ∙ p
+        ap (λ (x : ℕ). getD (set qualities k v) x 0) e ∙ getD-set-same qualities k v 0 long ∙ p
         ∙ ap (λ (g : Four). quality (entry j g)) (sym (nth-last cs f k count) ∙ ap (nth (cs ++ (f ∷ []))) (sym e))
-
--- ---- numbers below a bound
-pub below-put :
-    {m : ℕ} {xs : List ℕ} (k a b c d : ℕ) → a < m → b < m → c < m → d < m → k * 4 + 4 ≤ length xs → All-below m (k * 4) xs → All-below m ((k + 1) * 4) (put-four k a b c d xs)
-below-put {m} {xs} k a b c d p q r s long t =
-    record { long = omega (arith, put-length k a b c d xs); each = λ i l. at i l (decLt i (k * 4)) }
-  where
-    new : (n : ℕ) → n < 4 → getD (put-four k a b c d xs) (k * 4 + n) 0 < m
-    new =
-        one-of-four (λ n. getD (put-four k a b c d xs) (k * 4 + n) 0 < m) first (omega (arith, put-b k a b c d xs long)) (omega (arith, put-c k a b c d xs long))
-        (omega (arith, put-d k a b c d xs long))
-      where
-        first : getD (put-four k a b c d xs) (k * 4 + 0) 0 < m
-        first = let e : k * 4 + 0 ≡ k * 4 = omega arith in rw e (omega (arith, put-a k a b c d xs long))
-
-    at : (i : ℕ) → i < (k + 1) * 4 → Dec (i < k * 4) → getD (put-four k a b c d xs) i 0 < m
-    at i l (yes h) = omega (arith, put-before k a b c d xs i h, t .each i h)
-    at i l (no h) = let e : i ≡ k * 4 + (i - k * 4) = omega arith in rw e (new (i - k * 4) (omega arith))

@@ -1,26 +1,16 @@
 -- The first list by marks: it begins with the candidates of the best quality alive, and ends when all are passed. Assumes nothing.
-use mathlib.Core.Path.{_≡_, subst}
-use mathlib.Core.Bool.{Bool, true, false}
-use mathlib.Core.Logic.{_⊎_, inl, inr}
+use mathlib.Core.Path.{_≡_}
 use mathlib.Core.List.{List}
 use Prim.Native.Nat.{ℕ, suc, _≤_, _<_}
 use native.Mathlib.Omega.{arith}
 use lib.ListN.{length, getD}
 use Rattle.geometry.specs.declared.tetrahedron.Four.{Four}
-use Rattle.laws.specs.Laws.{Job, entry, quality, Tri, all-faces, worst, Best, bytes}
-use Rattle.laws.specs.Promise.{Best-alone}
-use Rattle.laws.specs.inner.Members.{Any, In}
-use Rattle.laws.proofs.Basics.Tests.{contradiction}
-use Rattle.laws.proofs.Basics.Lists.{any-of-member}
-use Rattle.laws.proofs.Choice.Promises.{best-alone}
-use Rattle.fillings.specs.Part.{open-face}
-use Rattle.fillings.specs.Marks.{nth, Pool, Covers, marked, Fills, Started, Extended}
+use Rattle.laws.specs.Laws.{Job, worst, Best}
+use Rattle.fillings.specs.Marks.{Pool, Covers, Fills, Started}
 use Rattle.fillings.proofs.Parts.Boundary.{Boundary}
-use Rattle.fillings.proofs.Parts.Worst.{worst-equals}
-use Rattle.fillings.proofs.Parts.NewOwners.{closed-of-none-open, open-face-of}
-use Rattle.fillings.proofs.Choice.FirstList.{first-best, first-moved, first-start, first-worth, only-witness-closed, only-witness-passed}
-use Rattle.fillings.proofs.Choice.Bisection.{Bounds, bounds-end, bounds-found, bounds-none, bounds-none-lawful}
-use Rattle.fillings.proofs.ByNumber.Numbers.{marked-number, number-marked}
+use Rattle.fillings.proofs.Choice.FirstList.{first-best, first-moved, first-start, first-worth, only-witness-passed}
+use Rattle.fillings.proofs.Choice.Bisection.{Bounds, bounds-end}
+use Rattle.fillings.proofs.ByNumber.Numbers.{marked-number}
 use Rattle.fillings.proofs.ByNumber.Start.{started-from, started-into}
 use Rattle.fillings.proofs.ByNumber.FirstByNumber.{First-marks}
 

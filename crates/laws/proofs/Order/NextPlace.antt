@@ -31,9 +31,6 @@ place-fourth n a b c d =
     let p = before-first-single (d - suc c) (suc c) n in
     let q = before-first-single (c + 1 - suc c) (suc c) n in omega arith
 
-pub place-fourth-next : (n a b c d : ℕ) → c < d → place n (four a b c (d + 1)) ≡ place n (four a b c d) + 1
-place-fourth-next n a b c d h = let p = place-fourth n a b c d in let q = place-fourth n a b c (d + 1) in omega arith
-
 -- ---- the step: from f on there is one four more than from g on
 abbrev left-from : (n : ℕ) → Four → ℕ
 left-from n f = choose (n - suc (f .a)) 4 + choose (n - suc (f .b)) 3 + choose (n - suc (f .c)) 2 + choose (n - f .d) 1

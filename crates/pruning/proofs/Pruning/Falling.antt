@@ -8,14 +8,13 @@ use native.Mathlib.Decide.{ℕ-discrete}
 use lib.ListN.{getD}
 use Rattle.laws.specs.inner.FaceCodes.{flip-code}
 use Rattle.laws.specs.Laws.{fours-in}
-use Rattle.laws.specs.Lists.{job-lists}
 use Rattle.laws.specs.Check.{job}
 use Rattle.fillings.specs.Marks.{Reduced}
 use Rattle.fillings.specs.Codes.{Owns, Owner, open-code}
 use Rattle.fillings.specs.Steps.{Stuck}
 use Rattle.fillings.proofs.ByNumber.Reduction.{reduced-refl, reduced-trans}
 use Rattle.fillings.proofs.ByCode.OpenCodes.{flip-flip}
-use Rattle.fillings.proofs.ByCode.Context.{reduced-thin}
+use Rattle.fillings.proofs.ByCode.Context.{reduced-prune}
 use Rattle.trail.specs.State.{Coded, Living, Trailed, Dropped}
 use Rattle.trail.proofs.Owners.{counts-flags}
 use Rattle.trail.proofs.Tracing.{traced-fewer, traced-counts}
@@ -24,7 +23,7 @@ use Rattle.pruning.specs.Pruned.{Pruned}
 
 -- ---- none, and one after another
 pub pruned-none : {m : ℕ} {codes bound held ms ow tr : List ℕ} {top : ℕ} → Living m codes ms ow tr top → Pruned m codes bound held ms tr top ms ow tr top
-pruned-none {ms = ms} h = record { trailed = trailed-none h; reduced = λ ps ts es qs fours x n. reduced-refl (job (job-lists ps ts es qs)) (fours-in _ fours) ms }
+pruned-none {ms = ms} h = record { trailed = trailed-none h; reduced = λ L fours x n. reduced-refl (job L) (fours-in _ fours) ms }
 
 pub pruned-trans :
     {m : ℕ} {codes bound held ms tr : List ℕ} {top : ℕ} {ls o1 ur : List ℕ} {mid : ℕ} {ns o2 vr : List ℕ} {end : ℕ} →
@@ -32,7 +31,7 @@ pub pruned-trans :
 pruned-trans f g =
     record {
       trailed = trailed-trans (f .trailed) (g .trailed);
-      reduced = λ ps ts es qs fours x n. reduced-trans (f .reduced ps ts es qs fours x n) (g .reduced ps ts es qs fours x (traced-counts (f .trailed .traced) n));
+      reduced = λ L fours x n. reduced-trans (f .reduced L fours x n) (g .reduced L fours x (traced-counts (f .trailed .traced) n));
     }
 
 -- ---- a stuck candidate
@@ -42,9 +41,9 @@ pub pruned-stuck :
 pruned-stuck {m} {ms = ms} d h l a s f =
     record {
       trailed = f .trailed;
-      reduced = λ ps ts es qs fours x n.
-          subst (Reduced (job (job-lists ps ts es qs)) (fours-in m fours) ms) (sym (f .marks))
-          (reduced-thin x (counts-flags d n) (counts-flags d (h .alive)) l a (s .owns) (s .shut) (s .lone) (reduced-refl (job (job-lists ps ts es qs)) (fours-in m fours) ms));
+      reduced = λ L fours x n.
+          subst (Reduced (job L) (fours-in m fours) ms) (sym (f .marks))
+          (reduced-prune x (counts-flags d n) (counts-flags d (h .alive)) l a (s .owns) (s .shut) (s .lone) (reduced-refl (job L) (fours-in m fours) ms));
     }
 
 -- a face without an alive owner stays so

@@ -6,7 +6,6 @@ use native.Mathlib.Decide.{ℕ-discrete}
 use lib.ListN.{getD, set}
 use lib.Seq.{getD-set-same, getD-set-other}
 use Rattle.laws.specs.Laws.{fours-in}
-use Rattle.laws.specs.Lists.{job-lists}
 use Rattle.laws.specs.Check.{job}
 use Rattle.fillings.specs.Marks.{Reduced}
 use Rattle.fillings.proofs.ByNumber.Numbers.{mark-within}
@@ -33,6 +32,6 @@ discarded {m} {ms = ms} {k = k} {ls = ls} a f g =
     record {
       trailed = trailed-trans (f .trailed) (g .trailed);
       gone = traced-gone (g .trailed .traced) k (ap (λ (xs : List ℕ). getD xs k 0) (f .marks) ∙ getD-set-same ms k 0 0 (mark-within 0 ms k a));
-      reduced = λ ps ts es qs fours x n r.
-          reduced-trans (subst (Reduced (job (job-lists ps ts es qs)) (fours-in m fours) ms) (sym (f .marks)) r) (g .reduced ps ts es qs fours x (traced-counts (f .trailed .traced) n));
+      reduced = λ L fours x n r.
+          reduced-trans (subst (Reduced (job L) (fours-in m fours) ms) (sym (f .marks)) r) (g .reduced L fours x (traced-counts (f .trailed .traced) n));
     }

@@ -4,14 +4,13 @@ use mathlib.Core.Bool.{Bool, true}
 use mathlib.Core.List.{List}
 use Prim.Native.Nat.{ℕ, _<_}
 use lib.ListN.{length, getD, set}
-use lib.IntN.{ℤ}
 use Rattle.geometry.specs.declared.tetrahedron.Four.{Four}
 use Rattle.laws.specs.Laws.{Job, fours-in}
-use Rattle.laws.specs.Lists.{job-lists}
+use Rattle.laws.specs.Lists.{Lists}
 use Rattle.laws.specs.Check.{job}
 use Rattle.laws.specs.inner.Members.{In}
 use Rattle.fillings.specs.Marks.{nth, Fills, Placed, Reduced}
-use Rattle.fillings.specs.Steps.{Context, Settles}
+use Rattle.fillings.specs.Steps.{Context, Propagates}
 use Rattle.fillings.proofs.ByNumber.Reduction.{reduced-drop, reduced-refl, reduced-trans}
 use Rattle.fillings.proofs.ByNumber.Setting.{placed-fills}
 use Rattle.fillings.proofs.ByCode.Context.{context-count}
@@ -24,7 +23,7 @@ use Rattle.shaving.proofs.Shaving.TakingBack.{trailed-back}
 
 -- where a state is hopeless once the candidate is set, no filling holds the candidate
 pub hopeless-useless :
-    {j : Job} {cs : List Four} {t : ℕ} {ms ns rs : List ℕ} {kind face : ℕ} → t < length cs → Placed j cs t ms ns → Settles j cs ns kind face rs → kind ≡ 0 →
+    {j : Job} {cs : List Four} {t : ℕ} {ms ns rs : List ℕ} {kind face : ℕ} → t < length cs → Placed j cs t ms ns → Propagates j cs ns kind face rs → kind ≡ 0 →
     (F : List Four) → Fills j cs ms F → In (nth cs t) F → ⊥
 hopeless-useless l p z e F f i = z .hopeless e F (z .reduced .keeps F (placed-fills l p F f i))
 
@@ -46,18 +45,18 @@ shaved-back {j} {cs} {ms = ms} b s =
 
 -- refuted, and dropped
 pub shaved-refuted :
-    {ps : List ℤ} {ts es : List ℕ} {qs : List ℤ} {m : ℕ} {fours codes bound ms held tr : List ℕ} {top : ℕ} {ns ow held1 ur ls ow2 held2 vr : List ℕ} {end k : ℕ} {found : Bool} {xs ow3 wr : List ℕ} {last : ℕ} →
-    Context ps ts es qs fours codes bound m → k < m → getD ns k 0 ≡ 1 → Counts 2 m codes ms held → found ≡ true →
-    Refuted (job (job-lists ps ts es qs)) (fours-in m fours) m k ns ow held1 ur end found ls ow2 held2 vr → Discarded m codes bound held2 ls vr end k xs ow3 wr last →
-    Shaved (job (job-lists ps ts es qs)) (fours-in m fours) m codes ms held tr top ns ow held1 ur end →
-    Shaved (job (job-lists ps ts es qs)) (fours-in m fours) m codes ms held tr top xs ow3 held2 wr last
-shaved-refuted {ps} {ts} {es} {qs} {m} {fours} {codes} {ns = ns} {ls = ls} {k = k} x l a g e r d s =
+    {L : Lists} {m : ℕ} {fours codes bound ms held tr : List ℕ} {top : ℕ} {ns ow held1 ur ls ow2 held2 vr : List ℕ} {end k : ℕ} {found : Bool} {xs ow3 wr : List ℕ} {last : ℕ} →
+    Context L fours codes bound m → k < m → getD ns k 0 ≡ 1 → Counts 2 m codes ms held → found ≡ true →
+    Refuted (job L) (fours-in m fours) m k ns ow held1 ur end found ls ow2 held2 vr → Discarded m codes bound held2 ls vr end k xs ow3 wr last →
+    Shaved (job L) (fours-in m fours) m codes ms held tr top ns ow held1 ur end →
+    Shaved (job L) (fours-in m fours) m codes ms held tr top xs ow3 held2 wr last
+shaved-refuted {L} {m} {fours} {codes} {ns = ns} {ls = ls} {k = k} x l a g e r d s =
     let b = shaved-back (r .back) s in
     let drop = reduced-drop ns k (rw (context-count x) l) a (λ F f i n. r .useless e F f i) in
     record {
       trailed = trailed-trans (b .trailed) (d .trailed);
       reduced = reduced-trans (b .reduced)
-          (d .reduced ps ts es qs fours x (shaved-counts g b) (subst (λ (ys : List ℕ). Reduced (job (job-lists ps ts es qs)) (fours-in m fours) ys (set ys k 0)) (sym (r .back .marks)) drop));
+          (d .reduced L fours x (shaved-counts g b) (subst (λ (ys : List ℕ). Reduced (job L) (fours-in m fours) ys (set ys k 0)) (sym (r .back .marks)) drop));
       set = b .set;
     }
 

@@ -12,7 +12,7 @@ use Rattle.trail.proofs.Counting.{standing-other}
 use Rattle.trail.proofs.Owners.{counts-determined}
 use Rattle.trail.proofs.Tracing.{traced-rises, traced-append, traced-moved}
 use Rattle.trail.proofs.Trailing.{set-unset}
-use Rattle.settling.specs.Moves.{Placement}
+use Rattle.placing.specs.Placement.{Placement}
 use Rattle.shaving.specs.Shaved.{As-it-was}
 
 -- the set owners are those of the marks before the drops

@@ -2,18 +2,18 @@
 use Prim.Native.Nat.{_+_, _*_, _-_, _/_, _<_, _≤_}
 use native.Mathlib.Omega.{arith}
 use lib.ListN.{length, getD}
-use Rattle.fillings.proofs.Loops.RimLoops.{Rim-to, rim-start, rim-next, rim-done}
+use Rattle.fillings.proofs.Loops.BoundaryLoops.{Boundary-codes-to, boundary-codes-start, boundary-codes-next, boundary-codes-done}
 use Rattle.candidates.proofs.boundary.boundary_codes.Statement.{statement}
 use Rattle.candidates.proofs.boundary.boundary_codes.Tie as tie
 
 abbrev Inv-loop : tie.InvT-loop
-Inv-loop triangles r₀ i₀ i-end r i = (i ≤ length triangles / 3) × Rim-to i triangles (r .code)
+Inv-loop triangles r₀ i₀ i-end r i = (i ≤ length triangles / 3) × Boundary-codes-to i triangles (r .code)
 
 abbrev μ-loop : tie.MeasureT-loop
 μ-loop triangles r₀ i₀ i-end r i = length triangles / 3 - i
 
 loop-holds : tie.Need-loop-holds Inv-loop μ-loop
-loop-holds c = (omega arith, rim-start (c .before .args .triangles .now))
+loop-holds c = (omega arith, boundary-codes-start (c .before .args .triangles .now))
 
 mul-a : tie.Need-mul-a Inv-loop μ-loop
 mul-a c = omega arith
@@ -76,10 +76,10 @@ loop-less : tie.Need-loop-less Inv-loop μ-loop
 loop-less c = omega arith
 
 loop-again : tie.Need-loop-again Inv-loop μ-loop
-loop-again c = (omega arith, rim-next (c .face-code .result) (omega arith) (c .face-code .ensures .0) (c .face-code .ensures .1) (c .before .before .before .before .before .loop .inv .1))
+loop-again c = (omega arith, boundary-codes-next (c .face-code .result) (omega arith) (c .face-code .ensures .0) (c .face-code .ensures .1) (c .before .before .before .before .before .loop .inv .1))
 
 returns : tie.Need-returns Inv-loop μ-loop
-returns c = rim-done (c .before .before .before .pre .0) (omega arith) (c .before .loop .inv .1)
+returns c = boundary-codes-done (c .before .before .before .pre .0) (omega arith) (c .before .loop .inv .1)
 
 pub boundary-codes-spec : {M : Type 1} → statement M
 boundary-codes-spec =

@@ -4,7 +4,7 @@ use Prim.Native.Nat.{ℕ, _-_, _≤_}
 use native.Mathlib.Omega.{arith}
 use lib.ListN.{length, getD, length-replicate, length-set}
 use Rattle.fillings.specs.Tables.{Named}
-use Rattle.fillings.proofs.Loops.RimLoops.{named-start, named-next}
+use Rattle.fillings.proofs.Loops.BoundaryLoops.{named-start, named-next}
 use Rattle.candidates.proofs.boundary.named.Statement.{statement}
 use Rattle.candidates.proofs.boundary.named.Tie as tie
 

@@ -1,5 +1,5 @@
 -- `candidates::pairs::corner_sets` meets its contract. The loop's invariant: the candidates passed have their corners as sets. Assumes nothing.
-use mathlib.Core.Path.{_≡_, sym, _∙_}
+use mathlib.Core.Path.{sym, _∙_}
 use Prim.Native.Nat.{_+_, _*_, _-_, _≤_}
 use native.Mathlib.Omega.{arith}
 use Rattle.candidates.proofs.Pooling.CornerSets.{Corners-to, corners-none, corners-more, corners-all}

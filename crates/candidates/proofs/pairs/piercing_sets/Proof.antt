@@ -1,5 +1,5 @@
 -- `candidates::pairs::piercing_sets` meets its contract. The loop's invariant: the sets passed have only points to which an edge runs through. Assumes nothing.
-use mathlib.Core.Path.{_≡_, sym, _∙_}
+use mathlib.Core.Path.{sym, _∙_}
 use Prim.Native.Nat.{_*_, _-_, _/_, _≤_}
 use native.Mathlib.Omega.{arith}
 use Rattle.geometry.specs.Space.{points-in}

@@ -12,11 +12,11 @@ use Rattle.candidates.proofs.pool.compact.Statement.{statement}
 use Rattle.candidates.proofs.pool.compact.Tie as tie
 
 abbrev Inv-loop : tie.InvT-loop
-Inv-loop points triangles kept table fours codes quals m marks fours2₀ codes2₀ quals2₀ c₀ k₀ fours2 codes2 quals2 c k =
-    (k ≤ m) × Compacted (job (job-lists points triangles kept table)) fours marks k fours2 codes2 quals2 c
+Inv-loop points triangles kept table fours codes qualities m marks fours2₀ codes2₀ qualities2₀ c₀ k₀ fours2 codes2 qualities2 c k =
+    (k ≤ m) × Compacted (job (job-lists points triangles kept table)) fours marks k fours2 codes2 qualities2 c
 
 abbrev μ-loop : tie.MeasureT-loop
-μ-loop points triangles kept table fours codes quals m marks fours2₀ codes2₀ quals2₀ c₀ k₀ fours2 codes2 quals2 c k =
+μ-loop points triangles kept table fours codes qualities m marks fours2₀ codes2₀ qualities2₀ c₀ k₀ fours2 codes2 qualities2 c k =
     m - k
 
 loop-holds : tie.Need-loop-holds Inv-loop μ-loop
@@ -36,10 +36,10 @@ copy-candidate-requires c κs =
     let l = compacted-below (i .1) in (
       omega (arith, p .long),
       omega (arith, p .faces .long),
-      omega (arith, p .qualities .long),
+      omega (arith, p .grades .long),
       omega (arith, i .1 .fours-long, p .few),
       omega (arith, i .1 .codes-long, p .few),
-      omega (arith, i .1 .quals-long, p .few),
+      omega (arith, i .1 .qualities-long, p .few),
     )
 
 add-c : tie.Need-add-c Inv-loop μ-loop
@@ -60,7 +60,7 @@ loop-again c =
     let i = c .before .before .before .loop .inv in (
       omega arith,
       ⊎-elim
-          (λ w. compacted-at (w .11 ∙ w .4 .ensures .0) (w .12 ∙ w .4 .ensures .1) (w .13 ∙ w .4 .ensures .2) (w .14) (compacted-copy (i .1) (p .few) (c .before .before .loop-test .taken) (p .faces) (p .qualities) (w .0 .taken)))
+          (λ w. compacted-at (w .11 ∙ w .4 .ensures .0) (w .12 ∙ w .4 .ensures .1) (w .13 ∙ w .4 .ensures .2) (w .14) (compacted-copy (i .1) (p .few) (c .before .before .loop-test .taken) (p .faces) (p .grades) (w .0 .taken)))
           (λ w. compacted-at (w .1) (w .2) (w .3) (w .4) (compacted-pass (i .1) (w .0 .left)))
           (c .if1 .came),
     )
@@ -72,7 +72,7 @@ same-length-2 : tie.Need-same-length-2 Inv-loop μ-loop
 same-length-2 c = c .before .loop .inv .1 .codes-long ∙ sym (c .before .before .before .before .before .before .before .before .before .before .before .pre .3)
 
 same-length-3 : tie.Need-same-length-3 Inv-loop μ-loop
-same-length-3 c = c .before .loop .inv .1 .quals-long ∙ sym (c .before .before .before .before .before .before .before .before .before .before .before .pre .4)
+same-length-3 c = c .before .loop .inv .1 .qualities-long ∙ sym (c .before .before .before .before .before .before .before .before .before .before .before .pre .4)
 
 returns : tie.Need-returns Inv-loop μ-loop
 returns c =

@@ -30,11 +30,11 @@ put-four-requires c κs = search needs
 put-faces-requires : tie.Need-put-faces-requires
 put-faces-requires c κs = search needs
 
-mul-quals : tie.Need-mul-quals
-mul-quals c = search needs
+mul-qualities : tie.Need-mul-qualities
+mul-qualities c = search needs
 
-slice-write-quals : tie.Need-slice-write-quals
-slice-write-quals c = search needs
+slice-write-qualities : tie.Need-slice-write-qualities
+slice-write-qualities c = search needs
 
 same-length : tie.Need-same-length
 same-length c = search needs
@@ -67,8 +67,8 @@ file-spec =
     cast-put-four-4
     put-four-requires
     put-faces-requires
-    mul-quals
-    slice-write-quals
+    mul-qualities
+    slice-write-qualities
     same-length
     same-length-2
     same-length-3

@@ -9,7 +9,7 @@ use Rattle.laws.specs.Lists.{job-lists}
 use Rattle.laws.specs.inner.Listed.{edges-from}
 use Rattle.laws.proofs.Basics.Scan.{hit, miss}
 use Rattle.fillings.specs.Pierce.{pierced}
-use Rattle.fillings.proofs.ByCode.RimFlags.{accepted-points-few, accepted-kept-present, accepted-kept-below-16}
+use Rattle.fillings.proofs.ByCode.BoundaryCodes.{accepted-points-few, accepted-kept-present, accepted-kept-below-16}
 use Rattle.fillings.proofs.Piercing.Piercing.{pierced-start, pierced-step, pierced-end}
 use Rattle.candidates.proofs.pool.is_pierced.Statement.{statement}
 use Rattle.candidates.proofs.pool.is_pierced.Tie as tie
@@ -24,7 +24,7 @@ abbrev μ-loop : tie.MeasureT-loop
 loop-holds : tie.Need-loop-holds Inv-loop μ-loop
 loop-holds c =
     let s = c .before .before .before .args in
-    (omega arith, pierced-start (points-in (s .points .now)) (s .f) (s .points .now) (s .triangles .now) (s .kept .now) (s .table .now))
+    (omega arith, pierced-start (points-in (s .points .now)) (s .f) (job-lists (s .points .now) (s .triangles .now) (s .kept .now) (s .table .now)))
 
 mul-a : tie.Need-mul-a Inv-loop μ-loop
 mul-a c = omega arith
@@ -52,9 +52,9 @@ edge-pierces-four-requires c κs =
     let l = c .before .before .before in
     let s = l .before .before .before .before in
     let a = s .args in
-    let few = accepted-kept-below-16 (a .points .now) (a .triangles .now) (a .kept .now) (a .table .now) (s .pre .0) in
+    let few = accepted-kept-below-16 (job-lists (a .points .now) (a .triangles .now) (a .kept .now) (a .table .now)) (s .pre .0) in
     let u = s .pre .2 in
-    let n = accepted-points-few (a .points .now) (a .triangles .now) (a .kept .now) (a .table .now) (s .pre .0) in (
+    let n = accepted-points-few (job-lists (a .points .now) (a .triangles .now) (a .kept .now) (a .table .now)) (s .pre .0) in (
       s .pre .1 .long,
       few .each (l .loop .i * 2) (omega arith),
       few .each (l .loop .i * 2 + 1) (omega arith),
@@ -66,7 +66,7 @@ returns c =
     let l = c .before .before .before .before .before in
     let s = l .before .before .before .before in
     let a = s .args in
-    let ends = accepted-kept-present (a .points .now) (a .triangles .now) (a .kept .now) (a .table .now) (s .pre .0) in
+    let ends = accepted-kept-present (job-lists (a .points .now) (a .triangles .now) (a .kept .now) (a .table .now)) (s .pre .0) in
     let is = c .before .edge-pierces-four .ensures (points-in (a .points .now)) (s .pre .1) (s .pre .2) (ends .each (l .loop .i * 2) (omega arith)) (ends .each (l .loop .i * 2 + 1) (omega arith)) in
     hit (l .loop .inv .1) (pierced-step (points-in (a .points .now)) (a .f) (a .kept .now) (l .loop .i) (omega arith)) is (c .if1 .taken)
 
@@ -81,7 +81,7 @@ loop-again c =
     let l = c .before .before .before .before .before in
     let s = l .before .before .before .before in
     let a = s .args in
-    let ends = accepted-kept-present (a .points .now) (a .triangles .now) (a .kept .now) (a .table .now) (s .pre .0) in
+    let ends = accepted-kept-present (job-lists (a .points .now) (a .triangles .now) (a .kept .now) (a .table .now)) (s .pre .0) in
     let is = c .before .edge-pierces-four .ensures (points-in (a .points .now)) (s .pre .1) (s .pre .2) (ends .each (l .loop .i * 2) (omega arith)) (ends .each (l .loop .i * 2 + 1) (omega arith)) in
     (omega arith, miss (l .loop .inv .1) (pierced-step (points-in (a .points .now)) (a .f) (a .kept .now) (l .loop .i) (omega arith)) is (c .if1 .left))
 

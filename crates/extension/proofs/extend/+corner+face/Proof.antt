@@ -11,7 +11,7 @@ use Rattle.extension.proofs.extend.+corner+face.{statement}
 use Rattle.extension.proofs.extend.+corner+face.Tie.{close}
 use Rattle.extension.proofs.extend.+corner+face.Proof.Cycle.{μ-corner, μ-face, corner-at, face-at, corner-claims, face-claims, face-Inv-loop, face-μ-loop}
 use Rattle.extension.proofs.extend.+corner+face.Proof.Corner.{corner-place-requires, corner-face-requires, corner-returns, corner-undo-requires, corner-unset-requires, corner-returns-2}
-use Rattle.extension.proofs.extend.+corner+face.Proof.Face.{face-settle-requires, face-returns, face-returns-2, face-loop-holds, face-slice-read-if3, face-owns-requires, face-corner-requires, face-returns-3, face-discard-requires, face-more-requires, face-shave-requires, face-add-k, face-loop-less, face-loop-again, face-returns-4}
+use Rattle.extension.proofs.extend.+corner+face.Proof.Face.{face-propagate-requires, face-returns, face-returns-2, face-loop-holds, face-slice-read-if3, face-owns-requires, face-corner-requires, face-returns-3, face-discard-requires, face-more-requires, face-shave-requires, face-add-k, face-loop-less, face-loop-again, face-returns-4}
 use Rattle.extension.proofs.extend.+corner+face.Proof.Lengths.{corner-same-length, corner-same-length-2, corner-same-length-3, corner-same-length-4, corner-same-length-5, corner-same-length-6, corner-same-length-7, corner-same-length-8, face-same-length, face-same-length-2, face-same-length-3, face-same-length-4, face-same-length-5, face-same-length-6, face-same-length-7, face-same-length-8, face-same-length-9, face-same-length-10, face-same-length-11, face-same-length-12, face-same-length-13, face-same-length-14, face-same-length-15, face-same-length-16}
 
 pub +corner+face-spec : {M : Type 1} → statement M
@@ -39,7 +39,7 @@ pub +corner+face-spec : {M : Type 1} → statement M
     face.Post
     face-Inv-loop
     face-μ-loop
-    (face-settle-requires t)
+    (face-propagate-requires t)
     (face-same-length t)
     (face-same-length-2 t)
     (face-same-length-3 t)

@@ -1,24 +1,25 @@
 -- `first_list::first::first_list` meets its contract: candidates are taken or dropped in order. Assumes nothing.
 use mathlib.Core.Path.{_≡_, refl, sym, ap, _∙_}
-use mathlib.Core.Logic.{⊎-elim}
+use mathlib.Core.Logic.{inl, inr}
 use Prim.Native.Nat.{suc, _+_, _-_, _≤_}
 use native.Mathlib.Omega.{arith}
 use borrow.Author.Needs.{needs, fits-under}
 use mir.Syntax.{w64}
-use Rattle.thresholds.specs.declared.best.Attempt.{Attempt}
-use Rattle.thresholds.proofs.Trying.Thresholds.{quals-long}
-use Rattle.thresholds.proofs.Trying.Beginning.{begun-living}
+use Rattle.laws.specs.Lists.{job-lists}
+use Rattle.raising.specs.declared.raise.Attempt.{Attempt}
+use Rattle.raising.proofs.Raising.Thresholds.{qualities-long}
+use Rattle.thresholds.proofs.Beginning.{begun-living}
 use Rattle.trail.proofs.Coding.{context-coded}
 use Rattle.first_list.proofs.Passing.FirstSteps.{Going, going-done, going-ended, going-moved, going-skipped, going-start, going-stepped}
 use Rattle.first_list.proofs.first.first_list.Statement.{statement}
 use Rattle.first_list.proofs.first.first_list.Tie as tie
 
 abbrev Inv-loop : tie.InvT-loop
-Inv-loop points triangles kept table rows fours codes boundary bound m corners piercing head next watch quals owners₀ held₀ trail₀ w₀ marks₀ top₀ k₀ owners held trail w marks top k =
-    (k ≤ m) × (w .worst ≡ w₀ .worst) × Going points triangles kept table m fours codes (w₀ .worst) (w .mark) marks owners held trail top k
+Inv-loop points triangles kept table rows fours codes boundary bound m corners piercing head next watch qualities owners₀ held₀ trail₀ w₀ marks₀ top₀ k₀ owners held trail w marks top k =
+    (k ≤ m) × (w .worst ≡ w₀ .worst) × Going (job-lists points triangles kept table) m fours codes (w₀ .worst) (w .mark) marks owners held trail top k
 
 abbrev μ-loop : tie.MeasureT-loop
-μ-loop points triangles kept table rows fours codes boundary bound m corners piercing head next watch quals owners₀ held₀ trail₀ w₀ marks₀ top₀ k₀ owners held trail w marks top k =
+μ-loop points triangles kept table rows fours codes boundary bound m corners piercing head next watch qualities owners₀ held₀ trail₀ w₀ marks₀ top₀ k₀ owners held trail w marks top k =
     m - k
 
 slice-aggregate-begin : tie.Need-slice-aggregate-begin Inv-loop μ-loop
@@ -26,7 +27,7 @@ slice-aggregate-begin c = search needs
 
 begin-requires : tie.Need-begin-requires Inv-loop μ-loop
 begin-requires c κs =
-    let p = c .before .before .before .before .before .before .before .before .before .before .before .before .before .before .before .before .before .before .pre in (context-coded (p .0 .context), quals-long (p .1 .whole .filed), refl, p .2, p .3)
+    let p = c .before .before .before .before .before .before .before .before .before .before .before .before .before .before .before .before .before .before .pre in (context-coded (p .0 .context), qualities-long (p .1 .whole .filed), refl, p .2, p .3)
 
 slice-aggregate-sweep : tie.Need-slice-aggregate-sweep Inv-loop μ-loop
 slice-aggregate-sweep c = search needs
@@ -51,19 +52,22 @@ step-requires c κs =
     (p .0, g .committed .ready, g .living, g .holds, c .before .before .before .before .before .before .loop-test .taken, c .before .before .before .before .before .if1 .taken, g .committed .first .witness)
 
 same-length : tie.Need-same-length Inv-loop μ-loop
-same-length c = c .before .before .before .before .before .before .before .before .before .step .ensures .settled .trailed .living .alive .long ∙ sym (c .before .before .before .before .before .before .before .before .before .before .before .before .before .before .before .before .before .before .before .before .before .before .before .before .before .before .before .before .before .before .before .before .before .before .before .before .before .before .before .before .before .before .before .before .before .before .before .before .before .before .before .before .pre .2)
+same-length c = c .before .before .before .before .before .before .before .before .before .step .ensures .propagated .trailed .living .alive .long ∙ sym (c .before .before .before .before .before .before .before .before .before .before .before .before .before .before .before .before .before .before .before .before .before .before .before .before .before .before .before .before .before .before .before .before .before .before .before .before .before .before .before .before .before .before .before .before .before .before .before .before .before .before .before .before .pre .2)
 
 same-length-2 : tie.Need-same-length-2 Inv-loop μ-loop
 same-length-2 c = c .before .before .before .before .before .before .before .before .before .step .ensures .advanced .holds .long ∙ sym (c .before .before .before .before .before .before .before .before .before .before .before .before .before .before .before .before .before .before .before .before .before .before .before .before .before .before .before .before .before .before .before .before .before .before .before .before .before .before .before .before .before .before .before .before .before .before .before .before .before .before .before .before .pre .3)
 
 same-length-3 : tie.Need-same-length-3 Inv-loop μ-loop
-same-length-3 c = c .before .before .before .before .before .before .before .before .before .step .ensures .settled .trailed .living .trail-long ∙ sym (c .before .before .before .before .before .before .before .before .before .before .before .before .before .before .before .before .before .before .before .before .before .before .before .before .before .before .before .before .before .before .before .before .before .before .before .before .before .before .before .before .before .before .before .before .before .before .before .before .before .before .before .before .pre .4)
+same-length-3 c = c .before .before .before .before .before .before .before .before .before .step .ensures .propagated .trailed .living .trail-long ∙ sym (c .before .before .before .before .before .before .before .before .before .before .before .before .before .before .before .before .before .before .before .before .before .before .before .before .before .before .before .before .before .before .before .before .before .before .before .before .before .before .before .before .before .before .before .before .before .before .before .before .before .before .before .before .pre .4)
 
 returns : tie.Need-returns Inv-loop μ-loop
 returns c =
     let p = c .before .before .before .before .before .before .before .before .before .before .before .before .before .before .before .before .before .before .before .before .before .before .before .before .before .before .before .before .before .before .before .before .before .before .before .before .before .before .before .before .before .before .before .before .before .before .before .before .before .before .before .before .pre in
     let v = c .before .before .before .before .before .before .before .before .before .before .before .before .before .before .before .before .before .loop in
-    (v .inv .1, going-done (p .0) (p .1) (c .before .before .before .before .before .before .before .before .before .before .before .before .before .before .before .before .loop-test .taken) (c .before .before .before .before .before .before .before .before .before .before .before .before .before .before .before .if1 .taken) (c .before .before .before .before .before .before .before .before .before .step .ensures) (c .if2 .taken) (v .inv .2))
+    let d = c .before .before .before .before .before .before .before .before .before .step in (
+      v .inv .1,
+      going-done (p .0) (p .1) {ws = v .w .mark} {ss = v .marks} {owners = v .owners} {held = v .held} {ns = d .last .1 .1 .1 .1 .1 .1 .1 .1 .1 .1 .1 .1 .1 .1 .1 .1 .1 .0} {o2 = d .last .1 .1 .1 .1 .1 .1 .1 .1 .1 .1 .1 .1 .1 .1 .1 .1 .1 .1 .0} {h2 = d .last .1 .1 .1 .1 .1 .1 .1 .1 .1 .1 .1 .1 .1 .1 .1 .1 .1 .1 .1 .0} {ur = d .last .1 .1 .1 .1 .1 .1 .1 .1 .1 .1 .1 .1 .1 .1 .1 .1 .1 .1 .1 .1 .0} (c .before .before .before .before .before .before .before .before .before .before .before .before .before .before .before .before .loop-test .taken) (c .before .before .before .before .before .before .before .before .before .before .before .before .before .before .before .if1 .taken) (d .ensures) (c .if2 .taken) (v .inv .2),
+    )
 
 add-k : tie.Need-add-k Inv-loop μ-loop
 add-k c =
@@ -79,11 +83,11 @@ loop-again c =
     let l = c .before .loop-test .taken in
     let e : v .k + 1 ≡ suc (v .k) = omega arith in (
       omega arith,
-      ⊎-elim (λ w. ap (λ (a : Attempt). a .worst) (w .19) ∙ v .inv .1) (λ w. ap (λ (a : Attempt). a .worst) (w .4) ∙ v .inv .1) (c .if1 .came),
-      ⊎-elim
-          (λ w. going-moved (w .16) (w .17) (w .18) (w .19) (w .20) (w .21) e (going-stepped x l (w .0 .taken) (w .6 .ensures) (v .inv .2)))
-          (λ w. going-moved (w .1) (w .2) (w .3) (w .4) (w .5) (w .6) e (going-skipped x (w .0 .left) (v .inv .2)))
-          (c .if1 .came),
+      elim (c .if1 .came) [ inl w ↦ ap (λ (a : Attempt). a .worst) (w .19) ∙ v .inv .1 | inr w ↦ ap (λ (a : Attempt). a .worst) (w .4) ∙ v .inv .1 ],
+      elim (c .if1 .came) [
+        | inl w ↦ going-moved (w .16) (w .17) (w .18) (w .19) (w .20) (w .21) e (going-stepped x {ws = v .w .mark} {ms = v .marks} {owners = v .owners} {held = v .held} {ns = w .6 .last .1 .1 .1 .1 .1 .1 .1 .1 .1 .1 .1 .1 .1 .1 .1 .1 .1 .0} {o2 = w .6 .last .1 .1 .1 .1 .1 .1 .1 .1 .1 .1 .1 .1 .1 .1 .1 .1 .1 .1 .0} {h2 = w .6 .last .1 .1 .1 .1 .1 .1 .1 .1 .1 .1 .1 .1 .1 .1 .1 .1 .1 .1 .1 .0} {ur = w .6 .last .1 .1 .1 .1 .1 .1 .1 .1 .1 .1 .1 .1 .1 .1 .1 .1 .1 .1 .1 .1 .0} l (w .0 .taken) (w .6 .ensures) (v .inv .2))
+        | inr w ↦ going-moved (w .1) (w .2) (w .3) (w .4) (w .5) (w .6) e (going-skipped x (w .0 .left) (v .inv .2))
+      ],
     )
 
 same-length-4 : tie.Need-same-length-4 Inv-loop μ-loop

@@ -9,10 +9,10 @@ use Rattle.pruning.proofs.prune.drop_below.Statement.{statement}
 use Rattle.pruning.proofs.prune.drop_below.Tie as tie
 
 abbrev Inv-loop : tie.InvT-loop
-Inv-loop codes m quals q marks₀ owners₀ trail₀ top end₀ k₀ marks owners trail end k = (k ≤ m) × Trailed m codes marks₀ trail₀ top marks owners trail end
+Inv-loop codes m qualities q marks₀ owners₀ trail₀ top end₀ k₀ marks owners trail end k = (k ≤ m) × Trailed m codes marks₀ trail₀ top marks owners trail end
 
 abbrev μ-loop : tie.MeasureT-loop
-μ-loop codes m quals q marks₀ owners₀ trail₀ top end₀ k₀ marks owners trail end k = m - k
+μ-loop codes m qualities q marks₀ owners₀ trail₀ top end₀ k₀ marks owners trail end k = m - k
 
 loop-holds : tie.Need-loop-holds Inv-loop μ-loop
 loop-holds c = (omega arith, trailed-none (c .before .before .before .before .before .pre .2))

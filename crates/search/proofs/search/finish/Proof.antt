@@ -4,14 +4,15 @@ use borrow.Author.Needs.{needs, fits-under}
 use mir.Syntax.{w32}
 use Rattle.search.proofs.Written.{marked-few}
 use Rattle.search.proofs.Written.{first-written}
+use Rattle.laws.specs.Lists.{job-lists}
 use Rattle.search.proofs.search.finish.Statement.{statement}
 use Rattle.search.proofs.search.finish.Tie as tie
 
-climb-requires : tie.Need-climb-requires
-climb-requires c κs = search needs
+raise-requires : tie.Need-raise-requires
+raise-requires c κs = search needs
 
 first-list-requires : tie.Need-first-list-requires
-first-list-requires c κs = let e = c .before .before .before .before .before .before .before .before .before .climb .ensures in (c .before .before .before .before .before .before .before .before .before .before .before .before .before .before .before .before .before .before .before .before .before .before .before .before .before .before .before .before .before .pre .0, e .0, e .1, e .2, e .3)
+first-list-requires c κs = let e = c .before .before .before .before .before .before .before .before .before .raise .ensures in (c .before .before .before .before .before .before .before .before .before .before .before .before .before .before .before .before .before .before .before .before .before .before .before .before .before .before .before .before .before .pre .0, e .0, e .1, e .2, e .3)
 
 write-filling-requires : tie.Need-write-filling-requires
 write-filling-requires c κs = let p = c .before .before .before .before .before .before .before .before .before .before .before .before .before .before .before .before .before .before .before .before .before .before .before .before .before .before .before .before .before .before .before .before .before .before .before .before .before .before .pre in let x = p .0 .context in (x .few, x .long, p .5)
@@ -38,13 +39,14 @@ same-length-4 c = search needs
 returns : tie.Need-returns
 returns c =
     let f = c .before .before .before .before .before .before .before .before .before .before .before .first-list in
-    let e = c .before .before .write-filling .ensures in first-written (f .result .mark) (c .before .before .before .before .before .before .before .before .before .before .before .before .before .before .before .before .before .before .before .before .before .climb .ensures .0) (f .ensures .0) (f .ensures .1) (e .0) (e .1)
+    let x = c .before .before .before .before .before .before .before .before .before .before .before .before .before .before .before .before .before .before .before .before .before .before .before .before .before .before .before .before .before .before .before .before .before .before .before .before .before .before .before .before .before .args in
+    let e = c .before .before .write-filling .ensures in first-written {L = job-lists (x .points .now) (x .triangles .now) (x .kept .now) (x .table .now)} {fours = x .fours .now} {codes = x .codes .now} {qualities = x .qualities .now} {m = x .m} (f .result .mark) (c .before .before .before .before .before .before .before .before .before .before .before .before .before .before .before .before .before .before .before .before .before .raise .ensures .0) (f .ensures .0) (f .ensures .1) (e .0) (e .1)
 
 pub finish-spec : {M : Type 1} → statement M
 finish-spec =
     tie.close
     (tie.spec
-    climb-requires
+    raise-requires
     first-list-requires
     write-filling-requires
     cast-t41

@@ -1,5 +1,4 @@
 -- `search::search::search` meets its contract: 2 to 13, 14, then the search. Assumes nothing.
-use mathlib.Core.Path.{sym, _∙_}
 use borrow.Author.Needs.{needs}
 use Rattle.search.proofs.Answers.{says-refused, says-searched, says-short}
 use Rattle.search.proofs.search.search.Statement.{statement}
@@ -17,7 +16,7 @@ returns c =
 returns-2 : tie.Need-returns-2
 returns-2 c =
     let x = c .before .before .before .before .before .before .args in
-    says-short (job-lists (x .points .now) (x .triangles .now) (x .kept .now) (x .table .now)) (x .answer .now) (sym (c .before .before .check-job .ensures) ∙ c .before .if1 .left) (c .if2 .taken)
+    says-short (job-lists (x .points .now) (x .triangles .now) (x .kept .now) (x .table .now)) (c .before .before .check-job .result) (x .answer .now) (c .before .before .check-job .ensures) (c .before .if1 .left) (c .if2 .taken)
 
 search-accepted-requires : tie.Need-search-accepted-requires
 search-accepted-requires c κs = search needs
@@ -28,7 +27,7 @@ same-length c = search needs
 returns-3 : tie.Need-returns-3
 returns-3 c =
     let x = c .before .before .before .before .before .before .before .before .before .before .args in
-    says-searched (job-lists (x .points .now) (x .triangles .now) (x .kept .now) (x .table .now)) (c .before .before .search-accepted .result) (x .answer .now) (c .before .before .search-accepted .last .1 .1 .1 .1 .0) (sym (c .before .before .before .before .before .before .check-job .ensures) ∙ c .before .before .before .before .before .if1 .left) (c .before .before .before .before .if2 .left) (c .before .before .search-accepted .ensures)
+    says-searched (job-lists (x .points .now) (x .triangles .now) (x .kept .now) (x .table .now)) (c .before .before .before .before .before .before .check-job .result) (c .before .before .search-accepted .result) (x .answer .now) (c .before .before .search-accepted .last .1 .1 .1 .1 .0) (c .before .before .before .before .before .before .check-job .ensures) (c .before .before .before .before .before .if1 .left) (c .before .before .before .before .if2 .left) (c .before .before .search-accepted .ensures)
 
 pub search-spec : {M : Type 1} → statement M
 search-spec = tie.close (tie.spec check-job-requires returns returns-2 search-accepted-requires same-length returns-3)

@@ -9,7 +9,7 @@ use Rattle.laws.specs.Check.{job}
 use Rattle.laws.specs.Lists.{job-lists}
 use Rattle.laws.proofs.Choice.Conditions.{accepted}
 use Rattle.fillings.specs.Codes.{Bound-flags}
-use Rattle.fillings.proofs.ByCode.RimFlags.{accepted-points-few, accepted-triangles-below-16, accepted-triangles-few, rim-flags}
+use Rattle.fillings.proofs.ByCode.BoundaryCodes.{accepted-points-few, accepted-triangles-below-16, accepted-triangles-few, boundary-code-flags}
 use Rattle.search.proofs.search.search_accepted.Statement.{statement}
 use Rattle.search.proofs.search.search_accepted.Tie as tie
 
@@ -17,7 +17,7 @@ use Rattle.search.proofs.search.search_accepted.Tie as tie
 flags : (c : tie.After-named) → let x = c .before .before .before .before .before .before .before .before .before .before .args in Bound-flags (job (job-lists (x .points .now) (x .triangles .now) (x .kept .now) (x .table .now)) .triangles) (c .named .result .flag) × (length (c .named .result .flag) ≡ 4096)
 flags c =
     let x = c .before .before .before .before .before .before .before .before .before .before .args in
-    (rim-flags (x .points .now) (x .triangles .now) (x .kept .now) (x .table .now) (c .before .before .before .boundary-codes .ensures .0) (c .named .ensures), length-unmapped ℕ (c .named .result .flag) 4096 (c .named .ok .1 .1 .0 .1 .0 .1))
+    (boundary-code-flags (job-lists (x .points .now) (x .triangles .now) (x .kept .now) (x .table .now)) (c .before .before .before .boundary-codes .ensures .0) (c .named .ensures), length-unmapped ℕ (c .named .result .flag) 4096 (c .named .ok .1 .1 .0 .1 .0 .1))
 
 slice-aggregate-fill-rows : tie.Need-slice-aggregate-fill-rows
 slice-aggregate-fill-rows c = search needs
@@ -26,13 +26,13 @@ fill-rows-requires : tie.Need-fill-rows-requires
 fill-rows-requires c κs =
     let s = c .before .before .before .before in
     let x = s .args in
-    (accepted (job-lists (x .points .now) (x .triangles .now) (x .kept .now) (x .table .now)) (s .pre .0) .near, accepted-points-few (x .points .now) (x .triangles .now) (x .kept .now) (x .table .now) (s .pre .0), length-replicate {A = ℕ} 4096 0)
+    (accepted (job-lists (x .points .now) (x .triangles .now) (x .kept .now) (x .table .now)) (s .pre .0) .near, accepted-points-few (job-lists (x .points .now) (x .triangles .now) (x .kept .now) (x .table .now)) (s .pre .0), length-replicate {A = ℕ} 4096 0)
 
 boundary-codes-requires : tie.Need-boundary-codes-requires
 boundary-codes-requires c κs =
     let s = c .before .before .before .before .before .before in
     let x = s .args in
-    (accepted-triangles-few (x .points .now) (x .triangles .now) (x .kept .now) (x .table .now) (s .pre .0), accepted-triangles-below-16 (x .points .now) (x .triangles .now) (x .kept .now) (x .table .now) (s .pre .0))
+    (accepted-triangles-few (job-lists (x .points .now) (x .triangles .now) (x .kept .now) (x .table .now)) (s .pre .0), accepted-triangles-below-16 (job-lists (x .points .now) (x .triangles .now) (x .kept .now) (x .table .now)) (s .pre .0))
 
 slice-aggregate-named : tie.Need-slice-aggregate-named
 slice-aggregate-named c = search needs

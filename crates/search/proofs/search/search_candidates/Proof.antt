@@ -1,11 +1,13 @@
--- `search::search::search_candidates` meets its contract: a search from a guess on, and from 1 on where that finds nothing. Assumes nothing.
+-- `search::search::search_candidates` meets its contract: a search from an upper bound on, and from 1 on where that finds nothing. Assumes nothing.
 use borrow.Author.Needs.{needs}
 use native.Mathlib.Omega.{arith}
-use Rattle.fillings.proofs.ByCode.RimFlags.{context-codes-below}
-use Rattle.fillings.proofs.ByCode.Settling.{context-rim-below}
+use Rattle.fillings.proofs.ByCode.BoundaryCodes.{context-codes-below}
+use Rattle.fillings.proofs.ByCode.Propagating.{context-boundary-below}
 use Rattle.search.proofs.FromThreshold.{under-all}
-use Rattle.search.proofs.Again.{as-long, from-guess-1, from-one-again}
-use Rattle.thresholds.proofs.Trying.Thresholds.{filed-context, quals-long}
+use Rattle.search.proofs.Again.{as-long, from-bound-1, from-one-again}
+use Rattle.laws.specs.Lists.{job-lists}
+use Rattle.laws.specs.Check.{job}
+use Rattle.raising.proofs.Raising.Thresholds.{filed-context, qualities-long}
 use Rattle.search.proofs.search.search_candidates.Statement.{statement}
 use Rattle.search.proofs.search.search_candidates.Tie as tie
 
@@ -18,13 +20,15 @@ opening-requires c κs =
     let x = s .args in
     let f = s .pre .5 .filed in
     let k = filed-context (s .pre .0) f (s .pre .2) (s .pre .3) in
-    (record { few = f .few; below = context-codes-below k }, quals-long f, context-rim-below k (s .pre .1), s .pre .3)
+    (record { few = f .few; below = context-codes-below k }, qualities-long f, context-boundary-below k (s .pre .1), s .pre .3)
 
 search-from-requires : tie.Need-search-from-requires
 search-from-requires c κs =
-    let p = c .before .before .before .before .before .before .before .before .before .before .before .before .pre in
+    let s = c .before .before .before .before .before .before .before .before .before .before .before .before in
+    let x = s .args in
+    let p = s .pre in
     let o = c .before .opening .ensures in
-    (p .0, p .1, p .2, p .3, p .4, p .5, o .0, o .1, omega arith, under-all _, p .6)
+    (p .0, p .1, p .2, p .3, p .4, p .5, o .0, o .1, omega arith, under-all (job (job-lists (x .points .now) (x .triangles .now) (x .kept .now) (x .table .now))), p .6)
 
 same-length : tie.Need-same-length
 same-length c = search needs
@@ -38,14 +42,16 @@ same-length-2 c = search needs
 
 returns-2 : tie.Need-returns-2
 returns-2 c =
-    from-guess-1 (c .if2 .taken) (c .before .before .before .before .before .search-from .ensures)
+    from-bound-1 (c .if2 .taken) (c .before .before .before .before .before .search-from .ensures)
 
 search-from-requires-2 : tie.Need-search-from-requires-2
 search-from-requires-2 c κs =
-    let p = c .before .before .before .before .before .before .before .before .before .before .before .before .before .before .before .before .before .before .before .pre in
+    let s = c .before .before .before .before .before .before .before .before .before .before .before .before .before .before .before .before .before .before .before in
+    let p = s .pre in
     let o = c .before .before .before .before .before .before .before .before .opening .ensures in
-    let w = c .before .before .before .before .before .before .search-from .ensures .none-there (c .before .before .if1 .left) in
-    (p .0, p .1, p .2, p .3, p .4, p .5, omega arith, omega arith, omega arith, w .2, as-long (w .1) (p .6))
+    let f = c .before .before .before .before .before .before .search-from in
+    let w = f .ensures .none-there (c .before .before .if1 .left) in
+    (p .0, p .1, p .2, p .3, p .4, p .5, omega arith, omega arith, omega arith, w .2, as-long {a = s .args .answer .now} {b = f .last .1 .1 .1 .1 .1 .1 .1 .1 .1 .1 .1 .1 .1 .1 .0} (w .1) (p .6))
 
 same-length-3 : tie.Need-same-length-3
 same-length-3 c = search needs

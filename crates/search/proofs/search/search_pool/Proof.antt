@@ -2,7 +2,7 @@
 use borrow.Author.Needs.{needs}
 use Prim.Native.Nat.{ℕ}
 use lib.ListN.{length-replicate}
-use Rattle.thresholds.proofs.Trying.Thresholds.{filed-context}
+use Rattle.raising.proofs.Raising.Thresholds.{filed-context}
 use Rattle.search.proofs.search.search_pool.Statement.{statement}
 use Rattle.search.proofs.search.search_pool.Tie as tie
 

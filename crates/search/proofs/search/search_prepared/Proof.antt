@@ -1,7 +1,9 @@
 -- `search::search::search_prepared` meets its contract: tried at the threshold, then finished. Assumes nothing.
 use borrow.Author.Needs.{needs}
 use borrow.Author.Tests.{not-true, not-false}
+use Rattle.laws.specs.Laws.{fours-in}
 use Rattle.laws.specs.Lists.{job-lists}
+use Rattle.fillings.specs.Marks.{marked}
 use Rattle.search.proofs.FromThreshold.{attempt-highest, attempt-under, from-found, from-none}
 use Rattle.search.proofs.search.search_prepared.Statement.{statement}
 use Rattle.search.proofs.search.search_prepared.Tie as tie
@@ -20,7 +22,7 @@ try-threshold-requires c κs = search needs
 
 returns : tie.Need-returns
 returns c =
-    from-none (c .before .before .before .before .before .before .before .before .before .before .before .before .before .before .before .before .before .before .before .before .before .before .args .answer .now) (attempt-under (not-true (c .before .before .before .before .before .try-threshold .result .found) (c .if1 .taken)) (c .before .before .before .before .before .try-threshold .ensures .1))
+    from-none (c .before .before .before .before .before .before .before .before .before .before .before .before .before .before .before .before .before .before .before .before .before .before .args .answer .now) (attempt-under (not-true (c .before .before .before .before .before .try-threshold .result .found) (c .if1 .taken)) (c .before .before .before .before .before .try-threshold .ensures .0))
 
 slice-aggregate-finish : tie.Need-slice-aggregate-finish
 slice-aggregate-finish c = search needs
@@ -33,9 +35,11 @@ slice-aggregate-finish-3 c = search needs
 
 finish-requires : tie.Need-finish-requires
 finish-requires c κs =
-    let p = c .before .before .before .before .before .before .before .before .before .before .before .before .before .before .before .before .before .before .before .before .before .before .before .before .before .before .pre in
+    let s = c .before .before .before .before .before .before .before .before .before .before .before .before .before .before .before .before .before .before .before .before .before .before .before .before .before .before in
+    let x = s .args in
+    let p = s .pre in
     let t = c .before .before .before .before .before .before .before .before .before .try-threshold in
-    (p .0, attempt-highest (p .2) (p .4) (p .5) (not-false (t .result .found) (c .before .before .before .before .if1 .left)) (t .ensures .1), t .ensures .2, t .ensures .3, t .ensures .4, p .6)
+    (p .0, attempt-highest {fours = x .fours .now} {codes = x .codes .now} {qualities = x .qualities .now} {m = x .m} (p .2) (p .4) (p .5) (not-false (t .result .found) (c .before .before .before .before .if1 .left)) (t .ensures .0), t .ensures .1, t .ensures .2, t .ensures .3, p .6)
 
 same-length : tie.Need-same-length
 same-length c = search needs
@@ -45,7 +49,8 @@ returns-2 c =
     let s = c .before .before .before .before .before .before .before .before .before .before .before .before .before .before .before .before .before .before .before .before .before .before .before .before .before .before .before .before .before .before .before .before in
     let x = s .args in
     let t = c .before .before .before .before .before .before .before .before .before .before .before .before .before .before .before .try-threshold in
-    from-found (job-lists (x .points .now) (x .triangles .now) (x .kept .now) (x .table .now)) _ (s .pre .0 .context .accepted) (t .ensures .1 .witness (not-false (t .result .found) (c .before .before .before .before .before .before .before .before .before .before .if1 .left)) .0) (c .before .before .before .before .before .finish .ensures)
+    let g = c .before .before .before .before .before .finish in
+    from-found (job-lists (x .points .now) (x .triangles .now) (x .kept .now) (x .table .now)) {a = x .answer .now} {b = g .last .1 .1 .1 .1 .1 .1 .1 .1 .1 .1 .1 .1 .1 .1 .1 .1 .1 .1 .1 .1 .1 .0} (marked 2 (fours-in (x .m) (x .fours .now)) (t .result .mark)) (s .pre .0 .context .accepted) (t .ensures .0 .witness (not-false (t .result .found) (c .before .before .before .before .before .before .before .before .before .before .if1 .left)) .0) (g .ensures)
 
 pub search-prepared-spec : {M : Type 1} → statement M
 search-prepared-spec =

@@ -1,6 +1,6 @@
 -- `shaving::shave::shave` meets its contract. Assumes nothing.
 use mathlib.Core.Path.{sym, ap, _∙_}
-use mathlib.Core.Logic.{⊎-elim}
+use mathlib.Core.Logic.{inl, inr}
 use Prim.Native.Nat.{_-_, _≤_}
 use native.Mathlib.Omega.{arith}
 use lib.ListN.{length}
@@ -11,8 +11,7 @@ use Rattle.laws.specs.Lists.{job-lists}
 use Rattle.laws.specs.Check.{job}
 use Rattle.fillings.proofs.ByCode.Context.{ready-reduced}
 use Rattle.shaving.specs.Shaved.{Shaved}
-use Rattle.shaving.proofs.Shaving.TakingBack.{alive-back, counts-back, living-back}
-use Rattle.shaving.proofs.Shaving.Calls.{can-discard}
+use Rattle.shaving.proofs.Shaving.Calls.{can-discard-back}
 use Rattle.shaving.proofs.Shaving.ShaveLoop.{shaved-back, shaved-counts, shaved-moved, shaved-none, shaved-refuted}
 
 abbrev Inv-loop : tie.InvT-loop
@@ -45,8 +44,8 @@ discard-requires c κs =
     let l = r .before .before .before .before .before .before .before .before in
     let s = start l in
     let i = l .loop .inv .1 in
-    let b = r .is-refuted .ensures .back in
-    can-discard (s .pre .0) (omega (arith, r .before .before .before .before .before .before .before .loop-test .taken)) (alive-back (l .loop .k) b (r .before .before .before .before .before .if1 .taken)) (living-back b (i .trailed .living)) (counts-back b (shaved-counts (s .pre .3) i))
+    can-discard-back (s .pre .0) {k = l .loop .k} {ms = l .loop .marks} {ow = l .loop .owners} {held = l .loop .held} {tr = l .loop .trail} {top = l .loop .end} {ns = r .is-refuted .last .1 .1 .1 .1 .1 .1 .1 .1 .1 .1 .1 .1 .1 .1 .1 .1 .0} {ow2 = r .is-refuted .last .1 .1 .1 .1 .1 .1 .1 .1 .1 .1 .1 .1 .1 .1 .1 .1 .1 .0} {held2 = r .is-refuted .last .1 .1 .1 .1 .1 .1 .1 .1 .1 .1 .1 .1 .1 .1 .1 .1 .1 .1 .0} {ur = r .is-refuted .last .1 .1 .1 .1 .1 .1 .1 .1 .1 .1 .1 .1 .1 .1 .1 .1 .1 .1 .1 .0} (r .is-refuted .ensures .back)
+    (omega (arith, r .before .before .before .before .before .before .before .loop-test .taken)) (r .before .before .before .before .before .if1 .taken) (i .trailed .living) (shaved-counts (s .pre .3) i)
 
 add-k : tie.Need-add-k Inv-loop μ-loop
 add-k c = omega arith
@@ -60,9 +59,13 @@ loop-again c =
     let s = start l in
     let i = l .loop .inv .1 in (
       omega arith,
-      ⊎-elim
-          (λ w. shaved-moved (w .26) (w .27) (w .28) (w .29) (w .30) (shaved-refuted (s .pre .0 .context) (omega arith) (w .0 .taken) (s .pre .3) (w .14 .taken) (w .5 .ensures) (w .19 .ensures) i))
-          (⊎-elim (λ w. shaved-moved (w .15) (w .16) (w .17) (w .18) (w .19) (shaved-back (w .5 .ensures .back) i)) (λ w. shaved-moved (w .1) (w .2) (w .3) (w .4) (w .5) i)) (c .if1 .came),
+      elim (c .if1 .came) [
+        | inl w ↦
+            shaved-moved (w .26) (w .27) (w .28) (w .29) (w .30)
+            (shaved-refuted {ns = l .loop .marks} {ow = l .loop .owners} {held1 = l .loop .held} {ur = l .loop .trail} {ls = w .5 .last .1 .1 .1 .1 .1 .1 .1 .1 .1 .1 .1 .1 .1 .1 .1 .1 .0} {ow2 = w .5 .last .1 .1 .1 .1 .1 .1 .1 .1 .1 .1 .1 .1 .1 .1 .1 .1 .1 .0} {held2 = w .5 .last .1 .1 .1 .1 .1 .1 .1 .1 .1 .1 .1 .1 .1 .1 .1 .1 .1 .1 .0} {vr = w .5 .last .1 .1 .1 .1 .1 .1 .1 .1 .1 .1 .1 .1 .1 .1 .1 .1 .1 .1 .1 .0} {end = l .loop .end} {k = l .loop .k} (s .pre .0 .context) (omega arith) (w .0 .taken) (s .pre .3) (w .14 .taken) (w .5 .ensures) (w .19 .ensures) i)
+        | inr (inl w) ↦ shaved-moved {m = s .args .m} (w .15) (w .16) (w .17) (w .18) (w .19) (shaved-back {m = s .args .m} {ns = l .loop .marks} {ow = l .loop .owners} {held1 = l .loop .held} {ur = l .loop .trail} {ls = w .5 .last .1 .1 .1 .1 .1 .1 .1 .1 .1 .1 .1 .1 .1 .1 .1 .1 .0} {ow2 = w .5 .last .1 .1 .1 .1 .1 .1 .1 .1 .1 .1 .1 .1 .1 .1 .1 .1 .1 .0} {held2 = w .5 .last .1 .1 .1 .1 .1 .1 .1 .1 .1 .1 .1 .1 .1 .1 .1 .1 .1 .1 .0} {vr = w .5 .last .1 .1 .1 .1 .1 .1 .1 .1 .1 .1 .1 .1 .1 .1 .1 .1 .1 .1 .1 .0} {end = l .loop .end} (w .5 .ensures .back) i)
+        | inr (inr w) ↦ shaved-moved (w .1) (w .2) (w .3) (w .4) (w .5) i
+      ],
     )
 
 same-length : tie.Need-same-length Inv-loop μ-loop

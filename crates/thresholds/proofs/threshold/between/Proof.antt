@@ -10,10 +10,10 @@ outside : {a b : ℕ} → a < b → b ≤ a → ⊥
 outside p q = omega arith
 
 abbrev Inv-loop : tie.InvT-loop
-Inv-loop quals m low high mid up₀ down₀ k₀ up down k = (k ≤ m) × Narrowed quals low high k up down
+Inv-loop qualities m low high mid up₀ down₀ k₀ up down k = (k ≤ m) × Narrowed qualities low high k up down
 
 abbrev μ-loop : tie.MeasureT-loop
-μ-loop quals m low high mid up₀ down₀ k₀ up down k = m - k
+μ-loop qualities m low high mid up₀ down₀ k₀ up down k = m - k
 
 sub-mid : tie.Need-sub-mid Inv-loop μ-loop
 sub-mid c = omega arith

@@ -6,10 +6,10 @@ use Rattle.thresholds.proofs.threshold.ceiling.Statement.{statement}
 use Rattle.thresholds.proofs.threshold.ceiling.Tie as tie
 
 abbrev Inv-loop : tie.InvT-loop
-Inv-loop top rim n r₀ i₀ r i = (i ≤ n) × (r ≤ 1000000)
+Inv-loop top boundary n r₀ i₀ r i = (i ≤ n) × (r ≤ 1000000)
 
 abbrev μ-loop : tie.MeasureT-loop
-μ-loop top rim n r₀ i₀ r i = n - i
+μ-loop top boundary n r₀ i₀ r i = n - i
 
 loop-holds : tie.Need-loop-holds Inv-loop μ-loop
 loop-holds c = (omega arith, omega arith)

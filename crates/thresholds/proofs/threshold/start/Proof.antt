@@ -6,15 +6,15 @@ use native.Mathlib.Omega.{arith}
 use borrow.Author.Needs.{set-long}
 use lib.ListN.{length}
 use Rattle.fillings.specs.Tables.{Alive-from}
-use Rattle.thresholds.proofs.Trying.Beginning.{alive-none, alive-mark, alive-skip}
+use Rattle.thresholds.proofs.Beginning.{alive-none, alive-mark, alive-skip}
 use Rattle.thresholds.proofs.threshold.start.Statement.{statement}
 use Rattle.thresholds.proofs.threshold.start.Tie as tie
 
 abbrev Inv-loop : tie.InvT-loop
-Inv-loop quals m q marks₀ k₀ marks k = (k ≤ m) × (length marks ≡ 1820) × Alive-from quals k q marks
+Inv-loop qualities m q marks₀ k₀ marks k = (k ≤ m) × (length marks ≡ 1820) × Alive-from qualities k q marks
 
 abbrev μ-loop : tie.MeasureT-loop
-μ-loop quals m q marks₀ k₀ marks k = m - k
+μ-loop qualities m q marks₀ k₀ marks k = m - k
 
 loop-holds : tie.Need-loop-holds Inv-loop μ-loop
 loop-holds c = (omega arith, c .pre .2, alive-none)
@@ -51,7 +51,7 @@ same-length c = c .before .loop .inv .1 ∙ sym (c .before .before .pre .2)
 returns : tie.Need-returns Inv-loop μ-loop
 returns c =
     let h : c .before .loop .k ≡ c .before .before .args .m = omega arith in
-    (subst (λ (n : ℕ). Alive-from (c .before .before .args .quals .now) n (c .before .before .args .q) (c .before .loop .marks)) h (c .before .loop .inv .2), c .before .loop .inv .1)
+    (subst (λ (n : ℕ). Alive-from (c .before .before .args .qualities .now) n (c .before .before .args .q) (c .before .loop .marks)) h (c .before .loop .inv .2), c .before .loop .inv .1)
 
 pub start-spec : {M : Type 1} → statement M
 start-spec =

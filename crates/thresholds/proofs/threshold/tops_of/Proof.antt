@@ -9,16 +9,16 @@ use Rattle.thresholds.proofs.threshold.tops_of.Statement.{statement}
 use Rattle.thresholds.proofs.threshold.tops_of.Tie as tie
 
 abbrev Inv-loop2 : tie.InvT-loop2
-Inv-loop2 codes quals m t₀ k q i₀ t i = (i ≤ 4) × (length (t .top) ≡ 4096)
+Inv-loop2 codes qualities m t₀ k q i₀ t i = (i ≤ 4) × (length (t .top) ≡ 4096)
 
 abbrev μ-loop2 : tie.MeasureT-loop2
-μ-loop2 codes quals m t₀ k q i₀ t i = 4 - i
+μ-loop2 codes qualities m t₀ k q i₀ t i = 4 - i
 
 abbrev Inv-loop : tie.InvT-loop
-Inv-loop codes quals m t₀ k₀ t k = (k ≤ m) × (length (t .top) ≡ 4096)
+Inv-loop codes qualities m t₀ k₀ t k = (k ≤ m) × (length (t .top) ≡ 4096)
 
 abbrev μ-loop : tie.MeasureT-loop
-μ-loop codes quals m t₀ k₀ t k = m - k
+μ-loop codes qualities m t₀ k₀ t k = m - k
 
 loop-holds : tie.Need-loop-holds Inv-loop2 μ-loop2 Inv-loop μ-loop
 loop-holds c = (omega arith, refl)
@@ -68,7 +68,7 @@ loop2-less c = omega arith
 loop2-again : tie.Need-loop2-again Inv-loop2 μ-loop2 Inv-loop μ-loop
 loop2-again c =
     let d = getD (c .before .before .before .before .before .before .before .before .args .codes .now) (c .before .before .before .before .before .before .before .loop .k * 4 + c .before .before .before .before .loop2 .i) 0 in
-    let q = getD (c .before .before .before .before .before .before .before .before .args .quals .now) (c .before .before .before .before .before .before .before .loop .k) 0 in
+    let q = getD (c .before .before .before .before .before .before .before .before .args .qualities .now) (c .before .before .before .before .before .before .before .loop .k) 0 in
     let l = c .before .before .before .before .loop2 .inv .1 in (omega arith, ⊎-elim (λ w. rw (w .1) (set-long ℕ (c .before .before .before .before .loop2 .t .top) d 4096 q l)) (λ w. rw (w .1) l) (c .if1 .came))
 
 add-k : tie.Need-add-k Inv-loop2 μ-loop2 Inv-loop μ-loop

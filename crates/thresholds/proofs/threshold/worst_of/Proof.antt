@@ -9,10 +9,10 @@ use Rattle.fillings.specs.Tables.{Least-set}
 use Rattle.fillings.proofs.Loops.QualityLoops.{least-none, least-skip, least-same, least-lower}
 
 abbrev Inv-loop : tie.InvT-loop
-Inv-loop quals m mark w₀ k₀ w k = (k ≤ m) × Least-set quals mark k w
+Inv-loop qualities m mark w₀ k₀ w k = (k ≤ m) × Least-set qualities mark k w
 
 abbrev μ-loop : tie.MeasureT-loop
-μ-loop quals m mark w₀ k₀ w k = m - k
+μ-loop qualities m mark w₀ k₀ w k = m - k
 
 loop-holds : tie.Need-loop-holds Inv-loop μ-loop
 loop-holds c = (omega arith, least-none)
@@ -42,7 +42,7 @@ loop-again c =
 returns : tie.Need-returns Inv-loop μ-loop
 returns c =
     let h : c .before .loop .k ≡ c .before .before .args .m = omega arith in
-    subst (λ (n : ℕ). Least-set (c .before .before .args .quals .now) (c .before .before .args .t3) n (c .before .loop .w)) h (c .before .loop .inv .1)
+    subst (λ (n : ℕ). Least-set (c .before .before .args .qualities .now) (c .before .before .args .t3) n (c .before .loop .w)) h (c .before .loop .inv .1)
 
 pub worst-of-spec : {M : Type 1} → statement M
 worst-of-spec =

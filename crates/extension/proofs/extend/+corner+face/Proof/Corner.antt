@@ -33,7 +33,7 @@ corner-returns t c =
     let h = corner-start t p .pre .1 in
     record {
       sized = f .face .ensures .sized;
-      cornered = cornered-placed (h .0 .context) (h .4) (h .5) (placement-placed (h .0) (p .place .ensures) (h .1)) (f .face .ensures .extended);
+      cornered = cornered-placed (h .0 .context) {rs = f .face .last .1 .1 .1 .1 .1 .1 .1 .1 .1 .1 .1 .1 .1 .1 .1 .1 .0} (h .4) (h .5) (placement-placed (h .0) (p .place .ensures) (h .1)) (f .face .ensures .extended);
       back = λ q. absurd (true≢false (sym (c .if1 .taken) ∙ q));
     }
 
@@ -43,15 +43,16 @@ corner-undo-requires t c κs =
     let p = placing t f in
     let s = corner-start t p in
     let d = f .face .ensures .trailed (c .before .before .before .if1 .left) in
-    (coded (s .pre .1 .0), d .living, (set (s .args .marks .now) (s .args .t) 2, setting-traced (p .place .ensures) d))
+    (coded (s .pre .1 .0), d .living, (set (s .args .marks .now) (s .args .t) 2, setting-traced {ls = f .face .last .1 .1 .1 .1 .1 .1 .1 .1 .1 .1 .1 .1 .1 .1 .1 .1 .0} {ow2 = f .face .last .1 .1 .1 .1 .1 .1 .1 .1 .1 .1 .1 .1 .1 .1 .1 .1 .1 .0} {vr = f .face .last .1 .1 .1 .1 .1 .1 .1 .1 .1 .1 .1 .1 .1 .1 .1 .1 .1 .1 .1 .0} (p .place .ensures) d))
 
 pub corner-unset-requires : (t : ℕ) → corner-lts.Need-unset-requires (corner-claims t) (corner-at t) corner.Post
 corner-unset-requires t c κs =
     let u = c .before .before .before .before .before .before .before in
     let f = exploring t u in
     let p = placing t f in
-    let h = corner-start t p .pre .1 in
-    let a = undone-set (p .place .ensures) (f .face .ensures .trailed (u .before .before .before .before .if1 .left)) (h .5) (h .2 .marks-long) (f .face .ensures .set (u .before .before .before .before .if1 .left)) (u .undo .ensures) in
+    let s = corner-start t p in
+    let h = s .pre .1 in
+    let a = undone-set {m = s .args .m} {ls = f .face .last .1 .1 .1 .1 .1 .1 .1 .1 .1 .1 .1 .1 .1 .1 .1 .1 .0} {ow2 = f .face .last .1 .1 .1 .1 .1 .1 .1 .1 .1 .1 .1 .1 .1 .1 .1 .1 .1 .0} {vr = f .face .last .1 .1 .1 .1 .1 .1 .1 .1 .1 .1 .1 .1 .1 .1 .1 .1 .1 .1 .1 .0} (p .place .ensures) (f .face .ensures .trailed (u .before .before .before .before .if1 .left)) {held2 = f .face .last .1 .1 .1 .1 .1 .1 .1 .1 .1 .1 .1 .1 .1 .1 .1 .1 .1 .1 .0} (h .5) (h .2 .marks-long) (f .face .ensures .set (u .before .before .before .before .if1 .left)) (u .undo .ensures) in
     (coded (h .0), h .4, a .0, a .1, a .2, a .3)
 
 -- what was set and what fell is taken back
@@ -63,7 +64,8 @@ corner-back t v =
     let u = undoing t v in
     let f = exploring t u in
     let p = placing t f in
-    let h = corner-start t p .pre .1 in taken-back (p .place .ensures) (f .face .ensures .trailed (u .before .before .before .before .if1 .left)) (h .5) (h .2) (h .3) (u .undo .ensures) (v .unset .ensures)
+    let s = corner-start t p in
+    let h = s .pre .1 in taken-back {m = s .args .m} {ls = f .face .last .1 .1 .1 .1 .1 .1 .1 .1 .1 .1 .1 .1 .1 .1 .1 .1 .0} {ow2 = f .face .last .1 .1 .1 .1 .1 .1 .1 .1 .1 .1 .1 .1 .1 .1 .1 .1 .1 .0} {vr = f .face .last .1 .1 .1 .1 .1 .1 .1 .1 .1 .1 .1 .1 .1 .1 .1 .1 .1 .1 .1 .0} (p .place .ensures) (f .face .ensures .trailed (u .before .before .before .before .if1 .left)) (h .5) (h .2) (h .3) (u .undo .ensures) (v .unset .ensures)
 
 pub corner-returns-2 : (t : ℕ) → corner-lts.Need-returns-2 (corner-claims t) (corner-at t) corner.Post
 corner-returns-2 t c =
@@ -72,4 +74,4 @@ corner-returns-2 t c =
     let f = exploring t u in
     let p = placing t f in
     let h = corner-start t p .pre .1 in
-    corner-failed (h .2) (h .3) (u .before .before .before .before .if1 .left) (cornered-placed (h .0 .context) (h .4) (h .5) (placement-placed (h .0) (p .place .ensures) (h .1)) (f .face .ensures .extended)) (corner-back t v)
+    corner-failed {rs = f .face .last .1 .1 .1 .1 .1 .1 .1 .1 .1 .1 .1 .1 .1 .1 .1 .1 .0} (h .2) (h .3) (u .before .before .before .before .if1 .left) (cornered-placed (h .0 .context) {rs = f .face .last .1 .1 .1 .1 .1 .1 .1 .1 .1 .1 .1 .1 .1 .1 .1 .1 .0} (h .4) (h .5) (placement-placed (h .0) (p .place .ensures) (h .1)) (f .face .ensures .extended)) (corner-back t v)

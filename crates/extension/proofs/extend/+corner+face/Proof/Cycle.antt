@@ -10,12 +10,12 @@ use Rattle.extension.proofs.extend.face.Kinds as face-kinds
 use Rattle.extension.proofs.extend.+corner+face.Lts-face as face-lts
 use Rattle.shaving.proofs.shave.discard.Reads as discard-reads
 use Rattle.extension.proofs.extend.more.Reads as more-reads
-use Rattle.extension.proofs.extend.owns.Reads as owns-reads
+use Rattle.trail.proofs.codes.owns.Reads as owns-reads
 use Rattle.shaving.proofs.shave.shave.Reads as shave-reads
 use Rattle.trail.proofs.marks.undo.Reads as undo-reads
 use Rattle.trail.proofs.marks.unset.Reads as unset-reads
-use Rattle.settling.proofs.place.place.Reads as place-reads
-use Rattle.settling.proofs.settle.settle.Reads as settle-reads
+use Rattle.placing.proofs.place.place.Reads as place-reads
+use Rattle.propagation.proofs.propagate.propagate.Reads as propagate-reads
 use Rattle.laws.specs.Laws.{fours-in}
 use Rattle.laws.specs.Lists.{job-lists}
 use Rattle.laws.specs.Check.{job}
@@ -45,7 +45,7 @@ corner-claims t = (place-reads.Asked, place-reads.Learnt, face-below t, face.Pos
 
 abbrev pub face-claims : ℕ → face-lts.Claims
 face-claims t =
-    (settle-reads.Asked, settle-reads.Learnt, owns-reads.Asked, owns-reads.Learnt, corner-below t, corner.Post, discard-reads.Asked, discard-reads.Learnt, more-reads.Asked, more-reads.Learnt, shave-reads.Asked, shave-reads.Learnt)
+    (propagate-reads.Asked, propagate-reads.Learnt, owns-reads.Asked, owns-reads.Learnt, corner-below t, corner.Post, discard-reads.Asked, discard-reads.Learnt, more-reads.Asked, more-reads.Learnt, shave-reads.Asked, shave-reads.Learnt)
 
 -- ---- the places of corner before: the start, the calls
 abbrev pub corner-start : (t : ℕ) → corner-lts.After-place (corner-claims t) (corner-at t) corner.Post → corner-lts.Start (corner-claims t) (corner-at t) corner.Post
@@ -69,12 +69,12 @@ abbrev pub face-μ-loop : face-lts.MeasureT-loop
 face-μ-loop points triangles kept table rows fours codes boundary bound m corners piercing head next watch from marks₀ owners₀ held₀ trail₀ top kind at end₀ nodes₀ shaved₀ k₀ marks owners held trail end nodes shaved k =
     m - k
 
--- the places before: the start, the settling, from the loop
-abbrev pub face-start : (t : ℕ) → face-lts.After-settle (face-claims t) (face-at t) face.Post face-Inv-loop face-μ-loop → face-lts.Start (face-claims t) (face-at t) face.Post face-Inv-loop face-μ-loop
+-- the places before: the start, the propagating, from the loop
+abbrev pub face-start : (t : ℕ) → face-lts.After-propagate (face-claims t) (face-at t) face.Post face-Inv-loop face-μ-loop → face-lts.Start (face-claims t) (face-at t) face.Post face-Inv-loop face-μ-loop
 face-start t z = z .before .before .before .before .before .before .before .before .before .before .before .before .before .before .before .before .before .before .before .before
 
-abbrev pub settling : (t : ℕ) → face-lts.At-loop (face-claims t) (face-at t) face.Post face-Inv-loop face-μ-loop → face-lts.After-settle (face-claims t) (face-at t) face.Post face-Inv-loop face-μ-loop
-settling t l = l .before .before .before .before .before .before .before .before .before
+abbrev pub propagating : (t : ℕ) → face-lts.At-loop (face-claims t) (face-at t) face.Post face-Inv-loop face-μ-loop → face-lts.After-propagate (face-claims t) (face-at t) face.Post face-Inv-loop face-μ-loop
+propagating t l = l .before .before .before .before .before .before .before .before .before
 
 abbrev pub looping : (t : ℕ) → face-lts.After-corner (face-claims t) (face-at t) face.Post face-Inv-loop face-μ-loop → face-lts.At-loop (face-claims t) (face-at t) face.Post face-Inv-loop face-μ-loop
 looping t r = r .before .before .before .before .before .before .before .before .before .before

@@ -1,0 +1,101 @@
+-- `propagation::choose::choose_behind` meets its contract. Assumes nothing.
+use mathlib.Core.Logic.{⊎-elim}
+use Prim.Native.Nat.{_+_, _*_, _-_, _≤_}
+use native.Mathlib.Omega.{arith}
+use Rattle.propagation.proofs.choose.choose_behind.Statement.{statement}
+use Rattle.propagation.proofs.choose.choose_behind.Tie as tie
+use Rattle.fillings.specs.Tables.{Goes-on, Behind-set}
+use Rattle.fillings.proofs.Loops.ChoiceLoops.{Behind-faces, choice-none, choice-both, choice-fewer, behind-faces-none, behind-faces-next, behind-set-none, behind-set-next, behind-set-skip, behind-set-all}
+
+abbrev Inv-loop2 : tie.InvT-loop2
+Inv-loop2 codes m marks bound held owners best₀ k x i₀ best i = (i ≤ 4) × Goes-on held bound owners (Behind-faces codes k i) (best₀ .kind) (best₀ .face) (best .kind) (best .face)
+
+abbrev μ-loop2 : tie.MeasureT-loop2
+μ-loop2 codes m marks bound held owners best₀ k x i₀ best i = 4 - i
+
+abbrev Inv-loop : tie.InvT-loop
+Inv-loop codes m marks bound held owners best₀ k₀ best k = (k ≤ m) × Goes-on held bound owners (Behind-set codes marks k) (best₀ .kind) (best₀ .face) (best .kind) (best .face)
+
+abbrev μ-loop : tie.MeasureT-loop
+μ-loop codes m marks bound held owners best₀ k₀ best k = m - k
+
+loop-holds : tie.Need-loop-holds Inv-loop2 μ-loop2 Inv-loop μ-loop
+loop-holds c = (omega arith, choice-none behind-set-none)
+
+shared-slice-read-x : tie.Need-shared-slice-read-x Inv-loop2 μ-loop2 Inv-loop μ-loop
+shared-slice-read-x c = omega arith
+
+loop2-holds : tie.Need-loop2-holds Inv-loop2 μ-loop2 Inv-loop μ-loop
+loop2-holds c = (omega arith, choice-none behind-faces-none)
+
+mul-d : tie.Need-mul-d Inv-loop2 μ-loop2 Inv-loop μ-loop
+mul-d c = omega arith
+
+add-d : tie.Need-add-d Inv-loop2 μ-loop2 Inv-loop μ-loop
+add-d c = omega arith
+
+mul-d-2 : tie.Need-mul-d-2 Inv-loop2 μ-loop2 Inv-loop μ-loop
+mul-d-2 c = omega arith
+
+shared-slice-read-d : tie.Need-shared-slice-read-d Inv-loop2 μ-loop2 Inv-loop μ-loop
+shared-slice-read-d c = omega (arith, c .before .before .before .before .before .before .before .before .before .before .before .before .pre .0 .below .long)
+
+cast-d : tie.Need-cast-d Inv-loop2 μ-loop2 Inv-loop μ-loop
+cast-d c = omega (arith, c .before .before .before .before .before .before .before .before .before .before .before .before .pre .0 .below .each (c .before .before .before .before .before .before .loop .k * 4 + c .before .before .loop2 .i) (omega arith))
+
+flip-requires : tie.Need-flip-requires Inv-loop2 μ-loop2 Inv-loop μ-loop
+flip-requires c κs = c .before .before .before .before .before .before .before .before .before .before .before .before .pre .0 .below .each (c .before .before .before .before .before .before .loop .k * 4 + c .before .before .loop2 .i) (omega arith)
+
+consider-requires : tie.Need-consider-requires Inv-loop2 μ-loop2 Inv-loop μ-loop
+consider-requires c κs = let p = c .before .before .before .before .before .before .before .before .before .before .before .before .before .pre in (c .flip .ensures .1, p .2, p .3, p .4)
+
+add-i : tie.Need-add-i Inv-loop2 μ-loop2 Inv-loop μ-loop
+add-i c = omega arith
+
+loop2-less : tie.Need-loop2-less Inv-loop2 μ-loop2 Inv-loop μ-loop
+loop2-less c = omega arith
+
+loop2-again : tie.Need-loop2-again Inv-loop2 μ-loop2 Inv-loop μ-loop
+loop2-again c = (omega arith, choice-both (behind-faces-next (c .before .flip .ensures .0)) (c .before .before .before .before .loop2 .inv .1) (c .consider .ensures))
+
+add-k : tie.Need-add-k Inv-loop2 μ-loop2 Inv-loop μ-loop
+add-k c = omega arith
+
+loop-less : tie.Need-loop-less Inv-loop2 μ-loop2 Inv-loop μ-loop
+loop-less c = omega arith
+
+loop-again : tie.Need-loop-again Inv-loop2 μ-loop2 Inv-loop μ-loop
+loop-again c =
+    let i = c .before .before .before .loop .inv .1 in (
+      omega arith,
+      ⊎-elim (λ w. rw (w .3) (choice-both (behind-set-next (omega arith)) i (w .1 .inv .1))) (λ w. rw (w .1) (choice-fewer (behind-set-skip (w .0 .left)) i)) (c .if1 .came),
+    )
+
+returns : tie.Need-returns Inv-loop2 μ-loop2 Inv-loop μ-loop
+returns c = choice-fewer (behind-set-all (omega arith)) (c .before .loop .inv .1)
+
+pub choose-behind-spec : {M : Type 1} → statement M
+choose-behind-spec =
+    tie.close
+    (tie.spec
+    Inv-loop2
+    μ-loop2
+    Inv-loop
+    μ-loop
+    loop-holds
+    shared-slice-read-x
+    loop2-holds
+    mul-d
+    add-d
+    mul-d-2
+    shared-slice-read-d
+    cast-d
+    flip-requires
+    consider-requires
+    add-i
+    loop2-less
+    loop2-again
+    add-k
+    loop-less
+    loop-again
+    returns)

@@ -1,0 +1,80 @@
+-- `propagation::closed::apart_from_lower` meets its contract. The loop's invariant: the set candidates passed are apart from k. Assumes nothing.
+use mathlib.Core.Path.{sym}
+use mathlib.Core.Bool.{true≢false}
+use mathlib.Core.Logic.{⊎-elim}
+use Prim.Native.Nat.{_-_, _≤_}
+use native.Mathlib.Omega.{arith}
+use borrow.Author.Tests.{not-true, not-false}
+use Rattle.geometry.specs.Space.{points-in}
+use Rattle.laws.specs.Laws.{fours-in}
+use Rattle.fillings.proofs.ByCode.Companions.{member-present}
+use Rattle.propagation.proofs.Propagating.Closing.{Apart-from, apart-from-none, apart-from-next, apart-from-skip, apart-from-end, apart-read, not-apart-read}
+use Rattle.propagation.proofs.Propagating.Parting.{corners-below-16, parted-apart}
+use Rattle.propagation.proofs.closed.apart_from_lower.Statement.{statement}
+use Rattle.propagation.proofs.closed.apart_from_lower.Tie as tie
+
+abbrev Inv-loop : tie.InvT-loop
+Inv-loop points triangles kept table rows fours codes bound m marks k g i₀ i = (i ≤ k) × Apart-from (points-in points) (fours-in m fours) marks g i
+
+abbrev μ-loop : tie.MeasureT-loop
+μ-loop points triangles kept table rows fours codes bound m marks k g i₀ i = k - i
+
+four-at-requires : tie.Need-four-at-requires Inv-loop μ-loop
+four-at-requires c κs = let x = c .before .before .before .before .before .before .before .pre .0 in (omega arith, x .few, x .long)
+
+loop-holds : tie.Need-loop-holds Inv-loop μ-loop
+loop-holds c = (omega arith, apart-from-none)
+
+shared-slice-read-if1 : tie.Need-shared-slice-read-if1 Inv-loop μ-loop
+shared-slice-read-if1 c = let x = c .before .before .before .before .before .before .before .before .before .before .before .pre .0 in omega (arith, x .few, c .before .before .before .before .before .before .before .before .before .before .before .pre .2)
+
+four-at-requires-2 : tie.Need-four-at-requires-2 Inv-loop μ-loop
+four-at-requires-2 c κs = let x = c .before .before .before .before .before .before .before .before .before .before .before .before .pre .0 in (omega arith, x .few, x .long)
+
+parted-by-face-requires : tie.Need-parted-by-face-requires Inv-loop μ-loop
+parted-by-face-requires c κs = let p = c .before .before .before .before .before .before .before .before .before .before .before .before .before .pre in (p .1 .long, corners-below-16 (p .0) (omega arith) (c .four-at2 .ensures), corners-below-16 (p .0) (p .3) (c .before .before .before .before .before .four-at .ensures))
+
+are-apart-requires : tie.Need-are-apart-requires Inv-loop μ-loop
+are-apart-requires c κs = let s = c .before .before .before .before .before .before .before .before .before .before .before .before .before .before .before in (member-present (s .pre .0) (c .before .before .before .before .before .before .loop .i) (omega arith) (c .before .before .four-at2 .ensures), member-present (s .pre .0) (s .args .k) (s .pre .3) (c .before .before .before .before .before .before .before .four-at .ensures))
+
+returns : tie.Need-returns Inv-loop μ-loop
+returns c =
+    let s = c .before .before .before .before .before .before .before .before .before .before .before .before .before .before .before .before .before in
+    (λ e. absurd (true≢false (sym e)), λ e. not-apart-read (omega arith) (s .pre .3) (c .before .before .before .before .before .if1 .taken) (s .pre .4) (c .before .are-apart .ensures) (c .before .before .before .before .four-at2 .ensures) (c .before .before .before .before .before .before .before .before .before .four-at .ensures) (not-true (c .before .are-apart .result) (c .if3 .taken)))
+
+add-i : tie.Need-add-i Inv-loop μ-loop
+add-i c = omega arith
+
+loop-less : tie.Need-loop-less Inv-loop μ-loop
+loop-less c = omega arith
+
+loop-again : tie.Need-loop-again Inv-loop μ-loop
+loop-again c =
+    let p = c .before .before .before .before .before .before .before .before .before .before .before .before .pre in
+    let a = c .before .before .before .loop .inv .1 in (
+      omega arith,
+      ⊎-elim (λ w. apart-from-next (λ e. apart-read _ _ (w .4 .ensures) (w .1 .ensures) (not-false (w .4 .result) (w .5 .left))) a)
+          (⊎-elim (λ w. apart-from-next (λ e. parted-apart (p .0) (w .2 .result) (p .1) (omega arith) (p .3) (w .1 .ensures) (c .before .before .before .before .four-at .ensures) (w .2 .ensures) (not-false (w .2 .result) (w .3 .left))) a)
+          (λ w. apart-from-skip (w .left) a)) (c .if1 .came),
+    )
+
+returns-2 : tie.Need-returns-2 Inv-loop μ-loop
+returns-2 c = (λ e. apart-from-end (omega arith) (c .before .before .four-at .ensures) (c .before .loop .inv .1), λ e. absurd (true≢false e))
+
+pub apart-from-lower-spec : {M : Type 1} → statement M
+apart-from-lower-spec =
+    tie.close
+    (tie.spec
+    Inv-loop
+    μ-loop
+    four-at-requires
+    loop-holds
+    shared-slice-read-if1
+    four-at-requires-2
+    parted-by-face-requires
+    are-apart-requires
+    returns
+    add-i
+    loop-less
+    loop-again
+    returns-2)

@@ -1,0 +1,100 @@
+// Choosing the next open face to own: one with the fewest alive owners. Which one is chosen is left free; that an open face without an owner is not overlooked is not.
+ghost use mathlib.Core.Path.{_≡_};
+ghost use Prim.Native.Nat.{_*_, _<_, _≤_};
+ghost use lib.ListN.{length};
+ghost use Rattle.fillings.specs.Tables.{All-below, Goes-on, On-boundary, Behind-set};
+ghost use Rattle.trail.specs.State.{Coded};
+use pruning::open::is_open;
+use trail::codes::flip;
+
+// 0: an open face that no alive candidate owns; 1: no open face so far; 2: an open face, with the number of its owners.
+pub struct Choice {
+    pub kind: usize,
+    pub face: usize,
+    pub count: u16,
+}
+
+// The better of a choice and the face c.
+pub(crate) fn consider(held: &[u16], bound: &[u8], owners: &[u16], c: usize, best: Choice) -> Choice
+    requires { ⌜ (c < 4096) × (length (now held) ≡ 4096) × (length (now bound) ≡ 4096) × (length (now owners) ≡ 4096) ⌝ }
+    ensures { λ r. ⌜ Goes-on (now (held .entry)) (now (bound .entry)) (now (owners .entry)) (λ d. d ≡ c) (best .kind) (best .face) (r .kind) (r .face) ⌝ }
+{
+    if best.kind == 0 {
+        return best;
+    }
+    if !is_open(held, bound, c) {
+        return best;
+    }
+    let x = owners[c];
+    if x == 0 {
+        return Choice {
+            kind: 0,
+            face: c,
+            count: 0,
+        };
+    }
+    if best.kind == 1 {
+        return Choice {
+            kind: 2,
+            face: c,
+            count: x,
+        };
+    }
+    if x < best.count {
+        return Choice {
+            kind: 2,
+            face: c,
+            count: x,
+        };
+    }
+    best
+}
+
+// Among the first n faces of the boundary.
+pub fn choose_on_boundary(
+    boundary: &[u16],
+    n: usize,
+    bound: &[u8],
+    held: &[u16],
+    owners: &[u16],
+) -> Choice
+    requires { ⌜ All-below 4096 n (now boundary) × (length (now held) ≡ 4096) × (length (now bound) ≡ 4096) × (length (now owners) ≡ 4096) ⌝ }
+    ensures { λ r. ⌜ Goes-on (now (held .entry)) (now (bound .entry)) (now (owners .entry)) (On-boundary (now (boundary .entry)) n) 1 0 (r .kind) (r .face) ⌝ }
+{
+    let mut best = Choice {
+        kind: 1,
+        face: 0,
+        count: 0,
+    };
+    for i in 0..n {
+        let c = boundary[i] as usize;
+        best = consider(held, bound, owners, c, best);
+    }
+    best
+}
+
+// Among the reverses of the faces of the set candidates, too.
+pub(crate) fn choose_behind(
+    codes: &[u16],
+    m: usize,
+    marks: &[u8],
+    bound: &[u8],
+    held: &[u16],
+    owners: &[u16],
+    from: Choice,
+) -> Choice
+    requires { ⌜ Coded m (now codes) × (m ≤ length (now marks)) × (length (now held) ≡ 4096) × (length (now bound) ≡ 4096) × (length (now owners) ≡ 4096) ⌝ }
+    ensures { λ r. ⌜ Goes-on (now (held .entry)) (now (bound .entry)) (now (owners .entry)) (Behind-set (now (codes .entry)) (now (marks .entry)) m) (from .kind) (from .face) (r .kind) (r .face) ⌝ }
+{
+    let mut best = from;
+    for k in 0..m {
+        let x = marks[k];
+        if x == 2 {
+            for i in 0..4 {
+                let d = codes[k * 4 + i] as usize;
+                best = consider(held, bound, owners, flip(d), best);
+            }
+        }
+    }
+    best
+}

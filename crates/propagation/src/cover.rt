@@ -1,0 +1,79 @@
+// What the candidates with a mark cover: points and kept edges, by flags for two points.
+ghost use mathlib.Core.Path.{_≡_};
+ghost use mathlib.Core.Bool.{true, false};
+ghost use Prim.Native.Nat.{_+_, _*_, _/_, _<_, _≤_};
+ghost use lib.ListN.{length};
+ghost use Rattle.laws.specs.Laws.{fours-in};
+ghost use Rattle.laws.specs.inner.ListedFours.{Below};
+ghost use Rattle.fillings.specs.Marks.{nth};
+ghost use Rattle.fillings.specs.Tables.{All-below, linked, Links-are, All-linked, Unlinked};
+use geometry::tetrahedron::Four;
+
+// Flags by two points: 16 times the one and the other.
+pub(crate) struct Links {
+    pub link: [u8; 256],
+}
+
+// The candidate k.
+pub(crate) fn four_at(fours: &[u8], m: usize, k: usize) -> Four
+    requires { ⌜ (k < m) × (m ≤ 1820) × (m * 4 ≤ length (now fours)) ⌝ }
+    ensures { λ r. ⌜ r ≡ nth (fours-in m (now (fours .entry))) k ⌝ }
+{
+    let a = fours[k * 4] as usize;
+    let b = fours[k * 4 + 1] as usize;
+    let c = fours[k * 4 + 2] as usize;
+    let d = fours[k * 4 + 3] as usize;
+    Four { a, b, c, d }
+}
+
+// Links the point a with each corner of f.
+fn link_corner(link: &mut [u8; 256], a: usize, f: Four)
+    requires { ⌜ (a < 16) × Below 16 f ⌝ }
+    ensures { λ _. ⌜ now (link .exit) ≡ linked (now (link .entry)) a f ⌝ }
+{
+    link[a * 16 + f.a] = 1;
+    link[a * 16 + f.b] = 1;
+    link[a * 16 + f.c] = 1;
+    link[a * 16 + f.d] = 1;
+}
+
+// Which points the candidates with mark v or w link.
+pub(crate) fn links_of(fours: &[u8], m: usize, marks: &[u8], v: u8, w: u8) -> Links
+    requires { ⌜ (m ≤ 1820) × All-below 16 (m * 4) (now fours) × (m ≤ length (now marks)) ⌝ }
+    ensures { λ r. ⌜ Links-are m (now (fours .entry)) (now (marks .entry)) v w (r .link) ⌝ }
+{
+    let mut link: [u8; 256] = [0; 256];
+    for k in 0..m {
+        let x = marks[k];
+        if x == v || x == w {
+            let f = four_at(fours, m, k);
+            link_corner(&mut link, f.a, f);
+            link_corner(&mut link, f.b, f);
+            link_corner(&mut link, f.c, f);
+            link_corner(&mut link, f.d, f);
+        }
+    }
+    Links { link }
+}
+
+// Whether every point and every kept edge is linked.
+pub(crate) fn all_linked(kept: &[u8], n: usize, link: &[u8]) -> bool
+    requires { ⌜ (n ≤ 16) × (length (now link) ≡ 256) × All-below 16 (length (now kept) / 2 * 2) (now kept) ⌝ }
+    ensures { λ r. ⌜ (r ≡ true → All-linked n (now (kept .entry)) (now (link .entry))) × (r ≡ false → Unlinked n (now (kept .entry)) (now (link .entry))) ⌝ }
+{
+    for p in 0..n {
+        let x = link[p * 17];
+        if x == 0 {
+            return false;
+        }
+    }
+    for i in 0..kept.len() / 2 {
+        let a = kept[i * 2] as usize;
+        let b = kept[i * 2 + 1] as usize;
+        let y = link[a * 16 + b];
+        if y == 0 {
+            return false;
+        }
+    }
+    true
+}
