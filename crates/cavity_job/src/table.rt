@@ -5,8 +5,8 @@ use geometry::measure::millionths_of;
 use geometry::tetrahedron::Four;
 ghost use mathlib.Core.Path.{_≡_};
 ghost use mathlib.Core.Bool.{false};
-ghost use Prim.Native.Nat.{_+_, _≤_, _<_};
-ghost use lib.ListN.{length, set};
+ghost use Prim.Native.Nat.{_≤_};
+ghost use lib.ListN.{length};
 ghost use lib.IntN.{pos};
 ghost use Rattle.geometry.specs.Space.{points-in};
 ghost use Rattle.geometry.specs.Range.{any-far, Present};
@@ -32,30 +32,14 @@ fn entry_of(points: &[i32], f: Four) -> i32
     if q == 0 { -1 } else { q as i32 }
 }
 
-// The table with e behind the others.
-fn with_entry(table: Table, e: i32) -> Table
-    requires { ⌜ table .count < 1820 ⌝ }
-    ensures { λ r. ⌜ (r .entry ≡ set (table .entry) (table .count) e) × (r .count ≡ table .count + 1) ⌝ }
-{
-    let k = table.count;
-    let mut entry = table.entry;
-    entry[k] = e;
-    Table {
-        entry,
-        count: k + 1,
-    }
-}
-
 // The entries in the order of a job's table, from the four 0123 to the last.
 pub fn table_of(points: &[i32]) -> Table
     requires { ⌜ (any-far (now points) ≡ false) × (length (points-in (now points)) ≤ 16) ⌝ }
     ensures { λ r. ⌜ (r .entry ≡ entries 1820 (pos 0) (cavity-table (now (points .entry)))) × (r .count ≡ choose (length (points-in (now (points .entry)))) 4) ⌝ }
 {
     let n = points.len() / 3;
-    let mut table = Table {
-        entry: [0; 1820],
-        count: 0,
-    };
+    let mut entry: [i32; 1820] = [0; 1820];
+    let mut count: usize = 0;
     let mut f = Four {
         a: 0,
         b: 1,
@@ -63,8 +47,9 @@ pub fn table_of(points: &[i32]) -> Table
         d: 3,
     };
     while f.d < n {
-        table = with_entry(table, entry_of(points, f));
+        entry[count] = entry_of(points, f);
+        count += 1;
         f = next_four(n, f);
     }
-    table
+    Table { entry, count }
 }

@@ -1,29 +1,35 @@
--- Loops over marks that stop at the first hit, where what is left of the marks has the answer of all; and whether a tetrahedron is in A. Assumes nothing.
+-- Loops over marks that stop at the first hit, where what is left of the marks has the answer of all; and whether a tetrahedron is in A, which only one with three
+-- of the cavity's corners can be. Assumes nothing.
 use mathlib.Core.Path.{_≡_, refl, sym, ap, _∙_}
-use mathlib.Core.Bool.{Bool, true, false, _&&_, _||_, not, cond}
+use mathlib.Core.Bool.{Bool, true, false, _&&_, _||_, not, cond, or-true, true≢false}
 use mathlib.Core.List.{List, [], _∷_, _++_}
 use Prim.Native.Nat.{ℕ, _+_, _/_, _≤_, _<_}
 use native.Mathlib.Omega.{arith}
-use borrow.Author.Tests.{ne-eqb}
+use borrow.Author.Tests.{ne-eqb, lt-leb}
 use lib.Dec.{leb, eqb}
 use lib.ListN.{length, drop}
 use Rattle.geometry.specs.declared.tetrahedron.Four.{Four}
 use Rattle.laws.specs.Laws.{corner-of}
 use Rattle.laws.specs.inner.ListedFours.{four-at}
 use Rattle.laws.proofs.Basics.Scan.{Step}
-use Rattle.bench_rules.specs.Bench.{mesh-fours, member, nth, common, shares-face}
+use Rattle.bench_rules.specs.Bench.{mesh-fours, member, nth, corner-of-any, common, shares-face}
 use Rattle.bench_rules.specs.inner.Marks.{marked}
 use Rattle.bench_rules.specs.inner.Sound.{Marks-within}
 use Rattle.bench_rules.proofs.Marks.Marked.{marked-next-member, marked-behind, marked-done}
 use Rattle.bench_rules.proofs.Mesh.Fours.{mesh-nth}
+use Rattle.mesh.specs.inner.Corners.{Corners-marked}
+use Rattle.growth.specs.inner.Grow.{among}
 
--- a corner counts at most one among the common points
+-- a corner counts at most one
+counts-one : (b : Bool) {r : ℕ} → r ≡ cond b 1 0 → r ≤ 1
+counts-one true e = omega arith
+counts-one false e = omega arith
+
 pub corner-counts-one : (p : ℕ) (f : Four) {r : ℕ} → r ≡ cond (corner-of p f) 1 0 → r ≤ 1
-corner-counts-one p f e = go (corner-of p f) e
-  where
-    go : (b : Bool) → {r : ℕ} → r ≡ cond b 1 0 → r ≤ 1
-    go true e = omega arith
-    go false e = omega arith
+corner-counts-one p f e = counts-one (corner-of p f) e
+
+pub mark-counts-one : (p : ℕ) (ps : List ℕ) {r : ℕ} → r ≡ cond (member p ps) 1 0 → r ≤ 1
+mark-counts-one p ps e = counts-one (member p ps) e
 
 -- ---- sharing a face with one in the cavity
 pub shares-face-step : (ts cm : List ℕ) (f : Four) (j : ℕ) → j < length ts / 4 → j < length cm →
@@ -45,6 +51,36 @@ shares-face-step ts cm f j h l =
 pub shares-face-end : (ts cm : List ℕ) (f : Four) (m j : ℕ) → Marks-within m cm → m ≤ j → shares-face (mesh-fours ts) f (marked j (drop j cm)) ≡ false
 unfolding shares-face
 shares-face-end ts cm f m j w h = ap (shares-face (mesh-fours ts) f) (marked-done cm m j w h)
+
+-- ---- a face of the cavity has three of its corners
+counts-less : (b m : Bool) → (b ≡ true → m ≡ true) → cond b 1 0 ≤ cond m 1 0
+counts-less true true h = omega arith
+counts-less true false h = absurd (true≢false (sym (h refl)))
+counts-less false true h = omega arith
+counts-less false false h = omega arith
+
+common-among : (ps : List ℕ) (f g : Four) → ((p : ℕ) → corner-of p g ≡ true → member p ps ≡ true) → common f g ≤ among ps f
+unfolding common among
+common-among ps f g h =
+    omega (
+      arith,
+      counts-less (corner-of (f .a) g) (member (f .a) ps) (h (f .a)),
+      counts-less (corner-of (f .b) g) (member (f .b) ps) (h (f .b)),
+      counts-less (corner-of (f .c) g) (member (f .c) ps) (h (f .c)),
+      counts-less (corner-of (f .d) g) (member (f .d) ps) (h (f .d)),
+    )
+
+few-among : (fs : List Four) (f : Four) (ps is : List ℕ) → ((p : ℕ) → corner-of-any p fs is ≡ true → member p ps ≡ true) → among ps f < 3 → shares-face fs f is ≡ false
+unfolding shares-face corner-of-any
+few-among fs f ps [] h l = refl
+few-among fs f ps (i ∷ is) h l =
+    let g = nth fs i in
+    let c = common-among ps f g (λ p e. h p (ap (λ (b : Bool). b || corner-of-any p fs is) e)) in
+    ap (λ (b : Bool). b || shares-face fs f is) (lt-leb 3 (common f g) (omega arith))
+    ∙ few-among fs f ps is (λ p e. h p (ap (_||_ (corner-of p g)) e ∙ or-true (corner-of p g))) l
+
+pub few-corners : (ts cm ms : List ℕ) (f : Four) {r : ℕ} → Corners-marked ts cm ms → r ≡ among (marked 0 ms) f → r < 3 → false ≡ shares-face (mesh-fours ts) f (marked 0 cm)
+few-corners ts cm ms f w e l = sym (few-among (mesh-fours ts) f (marked 0 ms) (marked 0 cm) (λ p k. w .each p ∙ k) (omega arith))
 
 -- ---- one of A
 pub in-cavity-no-neighbour : (ts cm : List ℕ) (i : ℕ) {r : Bool} → r ≡ member i (marked 0 cm) → r ≡ true →

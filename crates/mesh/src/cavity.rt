@@ -1,6 +1,6 @@
 // Whether an open cavity is one of the mesh: C and P, as marks, of each other. Assumes nothing.
+use crate::marks::corner_marks;
 use crate::marks::count_marked;
-use crate::marks::has_corner_at;
 use crate::marks::has_corners_in;
 use crate::marks::is_marked;
 use judge::fours::four_at;
@@ -9,7 +9,7 @@ ghost use mathlib.Core.Bool.{_&&_};
 ghost use Prim.Native.Nat.{_/_, _≤_};
 ghost use lib.Dec.{ltb};
 ghost use lib.ListN.{length};
-ghost use Rattle.bench_rules.specs.Bench.{cavity-good, mesh-fours, same-numbers, nth, corner-of-any, corners-in, points-of, tets-in};
+ghost use Rattle.bench_rules.specs.Bench.{cavity-good, mesh-fours, same-numbers, nth, corners-in, points-of, tets-in};
 ghost use Rattle.bench_rules.specs.inner.Marks.{marked};
 ghost use Rattle.bench_rules.specs.inner.Sound.{Marks-within};
 ghost use Rattle.mesh.specs.inner.State.{alike};
@@ -44,26 +44,15 @@ fn are_tets_right(tets: &[u8], in_cavity: &[u8], in_points: &[u8]) -> bool
     true
 }
 
-// Whether p is a corner of a tetrahedron of C.
-fn is_corner_inside(tets: &[u8], in_cavity: &[u8], p: usize) -> bool
-    requires { ⌜ (length (now tets) / 4 ≤ length (now «in_cavity»)) × Marks-within (length (now tets) / 4) (now «in_cavity») ⌝ }
-    ensures { λ r. ⌜ r ≡ corner-of-any p (mesh-fours (now (tets .entry))) (marked 0 (now («in_cavity» .entry))) ⌝ }
-{
-    for i in 0..tets.len() / 4 {
-        if has_corner_at(tets, in_cavity, p, i) {
-            return true;
-        }
-    }
-    false
-}
-
 // Whether P is the points of C, among n points.
 fn are_points_right(n: usize, tets: &[u8], in_cavity: &[u8], in_points: &[u8]) -> bool
     requires { ⌜ (n ≤ length (now «in_points»)) × (length (now tets) / 4 ≤ length (now «in_cavity»)) × Marks-within (length (now tets) / 4) (now «in_cavity») ⌝ }
     ensures { λ r. ⌜ r ≡ same-numbers (marked 0 (now («in_points» .entry))) (points-of n (mesh-fours (now (tets .entry))) (marked 0 (now («in_cavity» .entry)))) ⌝ }
 {
+    let c = corner_marks(tets, in_cavity);
+    let corners = c.mark;
     for p in 0..in_points.len() {
-        let is_point = (p < n) & is_corner_inside(tets, in_cavity, p);
+        let is_point = (p < n) & is_marked(&corners, p);
         if !is_alike(is_marked(in_points, p), is_point) {
             return false;
         }

@@ -102,8 +102,3 @@ module _ {cs : List ℤ} {n : ℕ} {entry : List ℤ} {count : ℕ} {f : Four} (
         w .stored ∙ ap (λ (l : List Four). entries 1820 (pos 0) (map (four-entry (points-in cs)) l)) (all ∙ ap all-fours (w .points)),
         w .many ∙ ap length all ∙ all-fours-length n few ∙ ap (λ (k : ℕ). choose k 4) (w .points),
       )
-
-pub table-at :
-    {cs : List ℤ} {n : ℕ} {entry entry2 : List ℤ} {count count2 : ℕ} {f : Four} → entry ≡ entry2 → count ≡ count2 → Tabled-so-far cs n entry2 count2 f →
-    Tabled-so-far cs n entry count f
-table-at p q w = rw (p, q) w
