@@ -1,9 +1,16 @@
-// The cavity program: a job's text on standard input, its printout on standard output. Assumes nothing; any bytes may come.
+// The cavity program: a job's text from standard input or a file, its printout on standard output. Assumes nothing; any bytes and any arguments may come.
 // A job that was not read to its end has no printout; that, and a printout that was not written to its end, is said on standard error.
 use answer::printout::print_text;
+use arguments::help::print_help;
+use arguments::help::print_version;
+use arguments::plan::Options;
+use arguments::plan::Plan;
+use arguments::plan::asked;
+use arguments::source::complain;
+use arguments::source::read_source;
 use streams::input::Input;
-use streams::input::read_input;
 use streams::output::write_output;
+use words::sentence::say_refusal;
 ghost use mathlib.Core.Path.{_≡_};
 ghost use lib.ListN.{length};
 
@@ -21,19 +28,44 @@ fn output_buffer() -> [u8; 43695]
     [0; 43695]
 }
 
-// Writes the printout of a job's whole text.
-fn print_answer(text: &[u8]) {
+fn is_refusal(printout: &[u8]) -> bool {
+    if printout.len() == 0 {
+        return false;
+    }
+    printout[0] == b'R'
+}
+
+// Writes the printout of a job's whole text; where words are asked for, a refusal is also said in a sentence, on standard error.
+fn print_answer(text: &[u8], words: bool) {
     let mut output = output_buffer();
     let n = print_text(text, &mut output);
     if !write_output(&output[..n]) {
         os::fail(b"cavity: the answer was not written to its end");
+        return;
+    }
+    if words & is_refusal(&output[..n]) {
+        say_refusal(text);
+    }
+}
+
+// Reads a job and prints its answer.
+fn run(o: Options) {
+    let mut input = input_buffer();
+    let file = o.file;
+    let words = o.words;
+    match read_source(file, &mut input) {
+        Input::Whole(n) => print_answer(&input[..n], words),
+        Input::Broken => {}
     }
 }
 
 fn main() {
-    let mut input = input_buffer();
-    match read_input(&mut input) {
-        Input::Whole(n) => print_answer(&input[..n]),
-        Input::Broken => os::fail(b"cavity: the job was not read to its end"),
+    match asked() {
+        Plan::Run(o) => run(o),
+        Plan::Help => print_help(),
+        Plan::Version => print_version(),
+        Plan::Unknown(i) => complain(i, b": no such option; cavity --help lists them\n"),
+        Plan::Second(i) => complain(i, b": a second file; one job is read\n"),
+        Plan::Unread(_) => os::fail(b"cavity: an argument was not read"),
     }
 }

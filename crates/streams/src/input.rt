@@ -1,9 +1,8 @@
-// Standard input as a whole. Unlike `io::read_full`, a read that fails is not taken for the end of the input.
+// A whole input, of an open file or standard input. Unlike `io::read_full`, a read that fails is not taken for the end of the input.
 use crate::call::MOST_TRIES;
 use crate::call::Outcome;
 use crate::call::is_interrupted;
 use crate::call::outcome_of;
-use libc::STDIN_FILENO;
 ghost use Prim.Native.Nat.{_-_, _≤_};
 ghost use mathlib.Core.Path.{_≡_};
 ghost use lib.ListN.{length};
@@ -17,20 +16,20 @@ pub enum Input {
     Broken,
 }
 
-fn read_once(buf: &mut [u8]) -> Outcome
+fn read_once(fd: i32, buf: &mut [u8]) -> Outcome
     ensures { λ r. ⌜ Within (length (now (buf .entry))) r ⌝ }
 {
-    let answer = libc::read(STDIN_FILENO, buf);
+    let answer = libc::read(fd, buf);
     outcome_of(answer, os::errno())
 }
 
 // One read, made again while signals interrupt it.
-fn read_some(buf: &mut [u8]) -> Outcome
+fn read_some(fd: i32, buf: &mut [u8]) -> Outcome
     ensures { λ r. ⌜ Within (length (now (buf .entry))) r ⌝ }
 {
     let mut tries = MOST_TRIES;
     while tries > 0 {
-        let outcome = read_once(buf);
+        let outcome = read_once(fd, buf);
         if !is_interrupted(outcome) {
             return outcome;
         }
@@ -40,11 +39,11 @@ fn read_some(buf: &mut [u8]) -> Outcome
 }
 
 // Reads some more behind the first `done` bytes.
-fn read_more(buf: &mut [u8], done: usize) -> Outcome
+fn read_more(fd: i32, buf: &mut [u8], done: usize) -> Outcome
     requires { ⌜ done ≤ length (now buf) ⌝ }
     ensures { λ r. ⌜ Within (length (now (buf .entry)) - done) r ⌝ }
 {
-    read_some(&mut buf[done..])
+    read_some(fd, &mut buf[done..])
 }
 
 // The input where a read moved no byte behind the first `done`: whole at its end, and none where the read failed.
@@ -60,12 +59,12 @@ fn input_at(outcome: Outcome, done: usize) -> Input
 }
 
 // Reads to the end of the input, or until buf is full.
-pub fn read_input(buf: &mut [u8]) -> Input
+pub fn read_input(fd: i32, buf: &mut [u8]) -> Input
     ensures { λ r. ⌜ Reads r (now (buf .exit)) ⌝ }
 {
     let mut done = 0;
     while done < buf.len() {
-        let outcome = read_more(buf, done);
+        let outcome = read_more(fd, buf, done);
         let Outcome::Bytes(n) = outcome else {
             return input_at(outcome, done);
         };

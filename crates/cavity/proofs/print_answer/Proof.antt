@@ -1,6 +1,6 @@
 -- `cavity::print_answer` is safe and ends: what it writes is the front of its buffer. Assumes nothing.
-use native.Mathlib.Omega.{arith}
 use Rattle.answer.proofs.Prefixes.{front-long}
+use native.Mathlib.Omega.{arith}
 use borrow.Author.Needs.{needs}
 use Rattle.cavity.proofs.print_answer.Statement.{statement}
 use Rattle.cavity.proofs.print_answer.Tie as tie
@@ -32,8 +32,23 @@ fail-requires c κs = search needs
 returns : tie.Need-returns
 returns c = search needs
 
+array-share-prefix-output-2 : tie.Need-array-share-prefix-output-2
+array-share-prefix-output-2 c = search needs
+
+slice-aggregate-is-refusal : tie.Need-slice-aggregate-is-refusal
+slice-aggregate-is-refusal c = front-long _ _ (omega arith)
+
+is-refusal-requires : tie.Need-is-refusal-requires
+is-refusal-requires c κs = search needs
+
+say-refusal-requires : tie.Need-say-refusal-requires
+say-refusal-requires c κs = search needs
+
 returns-2 : tie.Need-returns-2
 returns-2 c = search needs
+
+returns-3 : tie.Need-returns-3
+returns-3 c = search needs
 
 pub print-answer-spec : {M : Type 1} → statement M
 print-answer-spec =
@@ -48,4 +63,9 @@ print-answer-spec =
     slice-aggregate-fail
     fail-requires
     returns
-    returns-2)
+    array-share-prefix-output-2
+    slice-aggregate-is-refusal
+    is-refusal-requires
+    say-refusal-requires
+    returns-2
+    returns-3)

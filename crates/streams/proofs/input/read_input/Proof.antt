@@ -12,10 +12,10 @@ use Rattle.streams.proofs.input.read_input.Statement.{statement}
 use Rattle.streams.proofs.input.read_input.Tie as tie
 
 abbrev Inv-loop : tie.InvT-loop
-Inv-loop buf₀ done₀ buf done = (done ≤ length buf) × (length buf ≡ length buf₀)
+Inv-loop fd buf₀ done₀ buf done = (done ≤ length buf) × (length buf ≡ length buf₀)
 
 abbrev μ-loop : tie.MeasureT-loop
-μ-loop buf₀ done₀ buf done = length buf₀ - done
+μ-loop fd buf₀ done₀ buf done = length buf₀ - done
 
 loop-holds : tie.Need-loop-holds Inv-loop μ-loop
 loop-holds c = (omega arith, refl)
@@ -30,22 +30,22 @@ input-at-requires : tie.Need-input-at-requires Inv-loop μ-loop
 input-at-requires c κs = tt
 
 same-length : tie.Need-same-length Inv-loop μ-loop
-same-length c = c .before .before .before .before .read-more .kept .0 ∙ c .before .before .before .before .before .before .before .loop .inv .1
+same-length c = c .before .before .before .before .read-more .kept .1 .0 ∙ c .before .before .before .before .before .before .before .loop .inv .1
 
 returns : tie.Need-returns Inv-loop μ-loop
 returns c =
-    subst (λ (i : Input). Reads i (c .before .before .before .before .read-more .last .0)) (sym (c .input-at .ensures))
-    (input-reads (c .before .before .before .before .before .before .before .loop .done) (c .before .before .before .before .read-more .last .0) _ (omega (arith, c .before .before .before .before .read-more .kept .0, c .before .before .before .before .before .before .before .loop .inv .0)))
+    subst (λ (i : Input). Reads i (c .before .before .before .before .read-more .last .1 .0)) (sym (c .input-at .ensures))
+    (input-reads (c .before .before .before .before .before .before .before .loop .done) (c .before .before .before .before .read-more .last .1 .0) _ (omega (arith, c .before .before .before .before .read-more .kept .1 .0, c .before .before .before .before .before .before .before .loop .inv .0)))
 
 add-done : tie.Need-add-done Inv-loop μ-loop
-add-done c = let b = bytes-within _ _ _ (c .before .before .before .before .before .read-more .ensures) (c .before .outcome .given .1) in omega (arith, c .before .before .before .before .before .before .before .before .loop .inv .0, c .before .before .before .before .before .before .before .before .loop .inv .1, c .before .before .before .before .before .read-more .kept .0, b .1, b .0)
+add-done c = let b = bytes-within _ _ _ (c .before .before .before .before .before .read-more .ensures) (c .before .outcome .given .1) in omega (arith, c .before .before .before .before .before .before .before .before .loop .inv .0, c .before .before .before .before .before .before .before .before .loop .inv .1, c .before .before .before .before .before .read-more .kept .1 .0, b .1, b .0)
 
 loop-less : tie.Need-loop-less Inv-loop μ-loop
-loop-less c = let b = bytes-within _ _ _ (c .before .before .before .before .before .read-more .ensures) (c .before .outcome .given .1) in omega (arith, c .before .before .before .before .before .before .before .before .loop .inv .0, c .before .before .before .before .before .before .before .before .loop .inv .1, c .before .before .before .before .before .read-more .kept .0, b .1, b .0)
+loop-less c = let b = bytes-within _ _ _ (c .before .before .before .before .before .read-more .ensures) (c .before .outcome .given .1) in omega (arith, c .before .before .before .before .before .before .before .before .loop .inv .0, c .before .before .before .before .before .before .before .before .loop .inv .1, c .before .before .before .before .before .read-more .kept .1 .0, b .1, b .0)
 
 loop-again : tie.Need-loop-again Inv-loop μ-loop
 loop-again c =
-    let b = bytes-within _ _ _ (c .before .before .before .before .before .read-more .ensures) (c .before .outcome .given .1) in (omega (arith, c .before .before .before .before .before .before .before .before .loop .inv .0, b .1, c .before .before .before .before .before .read-more .kept .0), c .before .before .before .before .before .read-more .kept .0 ∙ c .before .before .before .before .before .before .before .before .loop .inv .1)
+    let b = bytes-within _ _ _ (c .before .before .before .before .before .read-more .ensures) (c .before .outcome .given .1) in (omega (arith, c .before .before .before .before .before .before .before .before .loop .inv .0, b .1, c .before .before .before .before .before .read-more .kept .1 .0), c .before .before .before .before .before .read-more .kept .1 .0 ∙ c .before .before .before .before .before .before .before .before .loop .inv .1)
 
 same-length-2 : tie.Need-same-length-2 Inv-loop μ-loop
 same-length-2 c = c .before .loop .inv .1

@@ -8,10 +8,10 @@ use Rattle.streams.proofs.input.read_some.Statement.{statement}
 use Rattle.streams.proofs.input.read_some.Tie as tie
 
 abbrev Inv-loop : tie.InvT-loop
-Inv-loop buf₀ tries₀ buf tries = length buf ≡ length buf₀
+Inv-loop fd buf₀ tries₀ buf tries = length buf ≡ length buf₀
 
 abbrev μ-loop : tie.MeasureT-loop
-μ-loop buf₀ tries₀ buf tries = tries
+μ-loop fd buf₀ tries₀ buf tries = tries
 
 loop-holds : tie.Need-loop-holds Inv-loop μ-loop
 loop-holds c = refl
@@ -23,7 +23,7 @@ is-interrupted-requires : tie.Need-is-interrupted-requires Inv-loop μ-loop
 is-interrupted-requires c κs = tt
 
 same-length : tie.Need-same-length Inv-loop μ-loop
-same-length c = c .before .before .before .before .read-once .kept .0 ∙ c .before .before .before .before .before .before .before .loop .inv
+same-length c = c .before .before .before .before .read-once .kept .1 .0 ∙ c .before .before .before .before .before .before .before .loop .inv
 
 returns : tie.Need-returns Inv-loop μ-loop
 returns c = subst (λ (n : ℕ). Within n (c .before .before .before .before .read-once .result)) (c .before .before .before .before .before .before .before .loop .inv) (c .before .before .before .before .read-once .ensures)
@@ -35,7 +35,7 @@ loop-less : tie.Need-loop-less Inv-loop μ-loop
 loop-less c = omega arith
 
 loop-again : tie.Need-loop-again Inv-loop μ-loop
-loop-again c = c .before .before .before .before .read-once .kept .0 ∙ c .before .before .before .before .before .before .before .loop .inv
+loop-again c = c .before .before .before .before .read-once .kept .1 .0 ∙ c .before .before .before .before .before .before .before .loop .inv
 
 same-length-2 : tie.Need-same-length-2 Inv-loop μ-loop
 same-length-2 c = c .before .loop .inv

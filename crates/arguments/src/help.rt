@@ -1,0 +1,42 @@
+// What the program says of itself. The version is that of the library: `VERSION` of the Makefile (tests/options compares them).
+use streams::output::write_output;
+
+fn print(text: &[u8]) {
+    if !write_output(text) {
+        os::fail(b"cavity: the text was not written to its end");
+    }
+}
+
+pub fn print_version() {
+    print(b"cavity 1.0.1\n");
+}
+
+pub fn print_help() {
+    print(
+        b"Usage: cavity [OPTION..] [FILE]\n\
+Fills a hole in a tetrahedral mesh with the tetrahedra whose worst quality is best.\n\
+Reads one job from FILE, or from standard input where no FILE is named or FILE is -,\n\
+and prints the filling, or the number that refuses the job.\n\
+\n\
+\x20 --words    a refusal is also said in words, with its place, on standard error\n\
+\x20 --help     prints this text\n\
+\x20 --version  prints the version\n\
+\x20 --         ends the options\n\
+\n\
+A job is lines that end with LF, fields parted by commas without blanks, in this order of kinds:\n\
+\x20 P,x,y,z      a point; whole coordinates from -10000 to 10000; 4 to 16 of them, numbered from 0\n\
+\x20 T,a,b,c      a boundary triangle, counter-clockwise seen from outside; 4 to 560 of them\n\
+\x20 E,a,b        an edge to be kept; up to 120 of them\n\
+\x20 Q,a,b,c,d,v  the quality of the four a<b<c<d in millionths, 1 to 1000000; 0 bars it\n\
+Numbers have 1 to 7 digits and no leading zeros; a minus stands only before a coordinate that\n\
+is not 0. Every four that is not flat needs a Q line. A text has at most 65536 bytes.\n\
+The answer is F,count,worst and H,a,b,c,d,quality,boundary faces for each tetrahedron,\n\
+or R,number. The exit status is always 0: an answer begins with F or R.\n\
+\n\
+Example, one tetrahedron:\n\
+\x20 printf '%s\\n' P,0,0,0 P,1,0,0 P,0,1,0 P,0,0,1 \\\n\
+\x20   T,0,2,1 T,0,1,3 T,0,3,2 T,1,2,3 Q,0,1,2,3,592592 | cavity\n\
+\x20 F,1,592592\n\
+\x20 H,0,1,2,3,592592,4\n",
+    );
+}
