@@ -107,6 +107,12 @@ pub mod c {
             answer_len: usize,
         ) -> Found;
         pub fn cottontuff_measure(coordinates: *const i32, coordinates_len: usize) -> Measured;
+        pub fn cottontuff_measure_table(
+            points: *const i32,
+            points_len: usize,
+            table: *mut i32,
+            table_len: usize,
+        ) -> u32;
         pub fn cottontuff_print(text: *const u8, text_len: usize, out: *mut u8, out_len: usize) -> usize;
     }
 
@@ -325,6 +331,13 @@ pub fn measure(coordinates: &[i32]) -> Result<Measured, Number> {
     } else {
         Measured::Flat { s: m.s }
     })
+}
+
+/// Measures a job's table: every entry of -1 becomes the quality of its four, and stays -1 where the four is flat; no other entry is touched.
+/// 2, 3, 4 or 11 for points or a table that can't be used, and then the table is as it was.
+pub fn measure_table(points: &[i32], table: &mut [i32]) -> Result<(), Number> {
+    // SAFETY: each pointer and length are those of a slice; the function writes to `table` alone, which `points` does not overlap.
+    refused(unsafe { c::cottontuff_measure_table(points.as_ptr(), points.len(), table.as_mut_ptr(), table.len()) })
 }
 
 /// The printout of a job's text, at the start of `out`, and how many bytes it has; the bytes behind them keep their values.
@@ -572,6 +585,39 @@ mod tests {
         assert_eq!(measure(&[10001; 13]), Err(Number::FAR_COORDINATE));
         assert_eq!(measure(&[i32::MIN; 12]), Err(Number::FAR_COORDINATE));
         assert_eq!(measure(&[0, 0, 0, 1, 0, 0, 0, 1, 0, 1, 1, 0]), Ok(Measured::Flat { s: 8.0 }));
+    }
+
+    #[test]
+    fn a_table_is_measured_where_it_is_not() {
+        let mut table = [-1; 5];
+        assert_eq!(measure_table(&B_POINTS, &mut table), Ok(()));
+        assert_eq!(table, [687924, 687924, 62465, 62465, 468104]);
+        assert_eq!(search(&b(&[], &table)), filled(&[[0, 1, 2, 3], [0, 1, 2, 4]], 687924));
+        // What stands is left as it is: barred, measured by hand, or bad.
+        let mut some = [0, -1, 1_000_001, -2, -1];
+        assert_eq!(measure_table(&B_POINTS, &mut some), Ok(()));
+        assert_eq!(some, [0, 687924, 1_000_001, -2, 468104]);
+        // A flat four stays unmeasured.
+        let square = [0, 0, 0, 1, 0, 0, 0, 1, 0, 1, 1, 0];
+        let mut flat = [-1];
+        assert_eq!(measure_table(&square, &mut flat), Ok(()));
+        assert_eq!(flat, [-1]);
+    }
+
+    #[test]
+    fn a_table_that_cannot_be_measured_is_left() {
+        let refuses = |points: &[i32], len: usize| {
+            let mut table = vec![-1; len];
+            let number = measure_table(points, &mut table);
+            assert!(table.iter().all(|entry| *entry == -1));
+            number
+        };
+        assert_eq!(refuses(&[], 0), Err(Number::POINT_COUNT));
+        assert_eq!(refuses(&[0; 51], 2380), Err(Number::POINT_COUNT));
+        assert_eq!(refuses(&[0, 0, 0, 1, 0, 0, 0, 1, 0, 0, 0, 10001], 2), Err(Number::FAR_COORDINATE));
+        assert_eq!(refuses(&[0, 0, 0, 1, 0, 0, 0, 1, 0, 0, 1, 0], 2), Err(Number::SAME_PLACE));
+        assert_eq!(refuses(&B_POINTS, 4), Err(Number::TABLE_LENGTH));
+        assert_eq!(refuses(&B_POINTS, 6), Err(Number::TABLE_LENGTH));
     }
 
     const B_TEXT: &[u8] =

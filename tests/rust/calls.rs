@@ -65,6 +65,13 @@ pub fn measure(list: &[i32]) -> c::Measured {
     unsafe { c::cottontuff_measure(start(list), list.len()) }
 }
 
+/// Its number.
+pub fn measure_table(points: &[i32], table: &mut [i32]) -> u32 {
+    let (at, len) = (start(table).cast_mut(), table.len());
+    // SAFETY: each pointer and length are those of a list; the function writes to the table alone, which the points do not overlap.
+    unsafe { c::cottontuff_measure_table(start(points), points.len(), at, len) }
+}
+
 /// How many bytes were printed.
 pub fn print(text: &[u8], out: &mut [u8]) -> usize {
     let (at, len) = (start(out).cast_mut(), out.len());

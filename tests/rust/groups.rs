@@ -11,6 +11,7 @@ mod program;
 mod search;
 mod sessions;
 mod stored;
+mod tables;
 mod text;
 
 /// Which part of the inputs, of how many; where the program and the stored jobs are.
@@ -42,6 +43,7 @@ pub const GROUPS: &[Group] = &[
     search::GROUP,
     large::GROUP,
     measure::GROUP,
+    tables::GROUP,
     text::GROUP,
     program::GROUP,
     stored::GROUP,

@@ -8,6 +8,7 @@ ghost use Rattle.laws.specs.Lists.{job-lists};
 ghost use Rattle.judge.specs.Judge.{Judge-says};
 ghost use Rattle.search.specs.Entry.{Search-says};
 ghost use Rattle.answer.specs.Answer.{Answered};
+ghost use Rattle.measuring.specs.Filling.{Fills};
 ghost use Rattle.bench.specs.Store.{fresh, loaded, opened-at, grown, closed, Replaces};
 ghost use Rattle.cottontuff.specs.Measured.{measured-for-c};
 use answer::printout::print_text;
@@ -24,6 +25,7 @@ use judge::judge::Verdict;
 use judge::judge::judge;
 use measured::Measured;
 use measured::measure_for_c;
+use measuring::fill::fill_table;
 use search::search::Found;
 use search::search::search;
 
@@ -74,6 +76,14 @@ pub extern "C" fn cottontuff_measure(coordinates: &[i32]) -> Measured
     ensures { λ r. ⌜ r ≡ measured-for-c (now (coordinates .entry)) ⌝ }
 {
     measure_for_c(coordinates)
+}
+
+// Measures every solid four whose entry in the table is -1: 0, or 2, 3, 4 or 11 and the table as it was. A flat four's entry stays -1, and no other entry is touched.
+#[no_mangle]
+pub extern "C" fn cottontuff_measure_table(points: &[i32], table: &mut [i32]) -> u32
+    ensures { λ r. ⌜ Fills (now (points .entry)) (now (table .entry)) r (now (table .exit)) ⌝ }
+{
+    fill_table(points, table)
 }
 
 // The printout of a job's text, at the start of the buffer, and how many bytes it has. A buffer under 43,695 bytes is left as it is, and the answer is 0.

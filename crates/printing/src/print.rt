@@ -19,7 +19,7 @@ ghost use Rattle.text.specs.Print.{letter-H, decimal, line-out, H-fields, refus
 ghost use Rattle.text.specs.inner.Printable.{shown, listed-out, answer-out, Lines-ready, Filled, count-flagged};
 
 // A byte at a place of the buffer; the next place.
-fn put(byte: u8, out: &mut [u8], at: usize) -> usize
+pub fn put(byte: u8, out: &mut [u8], at: usize) -> usize
     requires { ⌜ at < length (now out) ⌝ }
     ensures { λ r. ⌜ Writes (now (out .entry)) at (byte ∷ []) r (now (out .exit)) ⌝ }
 {
@@ -35,7 +35,7 @@ fn last_digit(n: usize) -> u8
 }
 
 // A number in decimal: the digits before the last, then the last.
-fn put_number(n: usize, out: &mut [u8], at: usize) -> usize
+pub fn put_number(n: usize, out: &mut [u8], at: usize) -> usize
     requires { ⌜ Room (now out) at (decimal n) ⌝ }
     ensures { λ r. ⌜ Writes (now (out .entry)) at (decimal n) r (now (out .exit)) ⌝ }
 {
@@ -47,7 +47,7 @@ fn put_number(n: usize, out: &mut [u8], at: usize) -> usize
 }
 
 // A line: a letter, the fields, each after a comma, and LF.
-fn put_line(letter: u8, fields: &[usize], out: &mut [u8], at: usize) -> usize
+pub fn put_line(letter: u8, fields: &[usize], out: &mut [u8], at: usize) -> usize
     requires { ⌜ Room (now out) at (line-out letter (now fields)) ⌝ }
     ensures { λ r. ⌜ Writes (now (out .entry)) at (line-out letter (now (fields .entry))) r (now (out .exit)) ⌝ }
 {
