@@ -22,7 +22,7 @@ pub struct Parsed {
 }
 
 // The fields that commas part, five at most.
-fn fields_in(bytes: &[u8], signed: bool) -> Fields
+pub fn fields_in(bytes: &[u8], signed: bool) -> Fields
     ensures { λ r. ⌜ Fields-read signed (fields-of (now (bytes .entry))) r ⌝ }
 {
     let mut values = [0i32; 5];
