@@ -1,10 +1,11 @@
 // Compares the search, the judge and the checker with a plain enumerator and with the laws written anew: on the cavities of document 01 that are not proved as a
-// table, and on random jobs. How many jobs: the number on the first line of standard input, 3,600 where there is none. Prints how many there were of each kind,
-// and how many comparisons differ. Assumes nothing; any bytes may come.
+// table, and on random jobs. How many jobs: the number on the one line of standard input, 3,600 where that is empty. Prints how many there were of each kind,
+// and how many comparisons differ. An argument, or an input that is no number, is refused on standard error. Assumes nothing; any bytes may come.
 mod limits;
 
 use enumerator::enumerate::ROOM;
 use enumerator::read::upto;
+use libc::STDERR_FILENO;
 use libc::STDIN_FILENO;
 use limits::with_limits;
 use lines::number::Number;
@@ -13,6 +14,7 @@ use lines::tally::next;
 use lines::tally::print;
 use lines::tally::print_count;
 use lines::text::before;
+use lines::text::past;
 use random_jobs::boundary::put_boundary;
 use random_jobs::boundary::put_chosen;
 use random_jobs::damage::damage;
@@ -60,20 +62,41 @@ fn with_jobs(jobs: u64, tally: Tally) -> Tally {
     t
 }
 
-// The number on the first line of the input.
-fn asked_for(input: &[u8]) -> u64 {
-    let Number::Is(n) = decimal(before(input, b'\n')) else {
-        return JOBS;
-    };
-    n
+// The number on the input's one line, a line end behind it or not.
+fn asked_for(input: &[u8]) -> Number {
+    if input.len() == 0 {
+        return Number::Is(JOBS);
+    }
+    if past(input, b'\n') < input.len() {
+        return Number::Nothing;
+    }
+    decimal(before(input, b'\n'))
 }
 
-fn main() {
-    let mut input = io::buffer();
-    let n = io::read_full(STDIN_FILENO, &mut input);
-    let jobs = asked_for(&input[..n]);
+fn compare(jobs: u64) {
     print(b"seeds 1 to ");
     print_count(jobs, b"\n");
     let t = with_jobs(jobs, with_limits(Tally::new()));
     t.print();
+}
+
+fn main() {
+    if 1 < os::arg_count() {
+        io::write_all(
+            STDERR_FILENO,
+            b"compare: it takes no argument; how many jobs is a number on standard input\n",
+        );
+        return;
+    }
+    let mut input = io::buffer();
+    let n = io::read_full(STDIN_FILENO, &mut input);
+    match asked_for(&input[..n]) {
+        Number::Is(jobs) => compare(jobs),
+        Number::Nothing => {
+            io::write_all(
+                STDERR_FILENO,
+                b"compare: standard input is neither empty nor one number\n",
+            );
+        }
+    }
 }
