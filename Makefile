@@ -1,22 +1,25 @@
-# The library for C, its pkg-config file, the program and the examples, under target/. Needs the Rattle kit (RT) and a C compiler. `make help` lists the targets.
+# The library for C, its pkg-config file, the programs and the examples, under target/. Needs the Rattle kit (RT) and a C compiler. `make help` lists the targets.
 RT = rt
 PREFIX = /usr/local
 CFLAGS = -O2 -Wall -Wextra
-VERSION = 1.0.0
+VERSION = 1.0.1
 SONAME = libcottontuff.so.1
 library = target/staticlib/libcottontuff.a
 shared = target/lib/libcottontuff.so.$(VERSION)
 package = cottontuff-$(VERSION)-x86_64-linux
+# rt's names have no hyphen; installed, cavity_measure is cavity-measure.
+programs = cavity cavity_measure cavity_bench
+installed = $(subst _,-,$(programs))
 # rt proves its crate anew at each call, so it is called only where a source is newer.
 sources = crates.txt $(shell find crates -name '*.rt' -o -name '*.antt')
 
-all: $(library) $(shared) target/cottontuff.pc target/bin/cavity target/examples/bench-session
+all: $(library) $(shared) target/cottontuff.pc $(programs:%=target/bin/%) target/examples/bench-session
 
 help:
-	@echo 'make             the library, static and shared, target/cottontuff.pc, the program, the examples in C'
-	@echo 'make check       the gate: proves all from nothing (.ci/run, some 25 minutes)'
+	@echo 'make             the library, static and shared, target/cottontuff.pc, the programs, the examples in C'
+	@echo 'make check       the gate: proves all from nothing (.ci/run, some 35 minutes)'
 	@echo 'make test        the tests outside the prover (tests/run)'
-	@echo 'make install     into PREFIX (default /usr/local; DESTDIR before it): libraries, header, pkg-config file, program, manual page, guide, Rust crate'
+	@echo 'make install     into PREFIX (default /usr/local; DESTDIR before it): libraries, header, pkg-config file, programs, manual pages, guide, Rust crate'
 	@echo 'make uninstall   takes them out again'
 	@echo 'make dist        target/$(package).tar.gz with its checksum: installs without the kit'
 	@echo 'make clean       removes target/'
@@ -26,9 +29,9 @@ $(library): $(sources)
 	$(RT) staticlib cottontuff >target/staticlib.log 2>&1 || { tail -n 20 target/staticlib.log; exit 1; }
 	@touch $@
 
-target/bin/cavity: $(sources)
+$(programs:%=target/bin/%): target/bin/%: $(sources)
 	@mkdir -p target
-	$(RT) check cavity >target/cavity.log 2>&1 || { tail -n 20 target/cavity.log; exit 1; }
+	$(RT) check $* >target/$*.log 2>&1 || { tail -n 20 target/$*.log; exit 1; }
 	@touch $@
 
 $(shared): $(library)
@@ -63,14 +66,14 @@ install: all
 	ln -sf $(SONAME) $(to)/lib/libcottontuff.so
 	install -m 644 target/cottontuff.pc $(to)/lib/pkgconfig
 	install -m 644 include/cottontuff.h $(to)/include
-	install -m 755 target/bin/cavity $(to)/bin
+	$(foreach p,$(programs),install -m 755 target/bin/$(p) $(to)/bin/$(subst _,-,$(p)) &&) true
 	install -m 644 man/*.1 $(to)/share/man/man1
 	install -m 644 docs/GUIDE.md CHANGELOG.md $(to)/share/doc/cottontuff
 	install -m 644 rust/Cargo.toml rust/build.rs rust/cottontuff.rs $(to)/share/cottontuff/rust
 
 uninstall:
 	rm -f $(to)/lib/libcottontuff.a $(to)/lib/libcottontuff.so $(to)/lib/$(SONAME) $(to)/lib/libcottontuff.so.$(VERSION) $(to)/lib/pkgconfig/cottontuff.pc
-	rm -f $(to)/include/cottontuff.h $(to)/bin/cavity $(patsubst man/%,$(to)/share/man/man1/%,$(wildcard man/*.1))
+	rm -f $(to)/include/cottontuff.h $(installed:%=$(to)/bin/%) $(patsubst man/%,$(to)/share/man/man1/%,$(wildcard man/*.1))
 	rm -rf $(to)/share/doc/cottontuff $(to)/share/cottontuff
 
 # Everything below one folder, with a script that copies it into PREFIX.
@@ -87,3 +90,6 @@ clean:
 
 FORCE:
 .PHONY: all help check test install uninstall dist clean FORCE
+
+# rt proves in one folder: one call at a time.
+.NOTPARALLEL:

@@ -45,6 +45,8 @@ int main(void) {
 extern "C" {
 #endif
 
+#define COTTONTUFF_VERSION "1.0.1"
+
 /* ---- sizes of a job */
 #define COTTONTUFF_LEAST_POINTS 4
 #define COTTONTUFF_MOST_POINTS 16
@@ -149,6 +151,10 @@ typedef struct {
 
 /* coordinates: x, y, z of each of the four corners, in any order of the corners. */
 cottontuff_measured cottontuff_measure(const int32_t *coordinates, size_t coordinates_len);
+
+/* Measures a job's table: every entry that is COTTONTUFF_UNMEASURED_ENTRY becomes the quality of its four, and stays -1 where the four is flat. No other entry is touched, so what is barred
+ * or measured by hand stands. table: lent, COTTONTUFF_TABLE_LENGTH_OF(points) entries. Answers 0, or 2, 3, 4 or 11, and then the table is as it was. */
+uint32_t cottontuff_measure_table(const int32_t *points, size_t points_len, int32_t *table, size_t table_len);
 
 /* ---- text and printout */
 /* The printout of a job's text, as the program `cavity` prints it: the bytes, without a 0 behind them, at the start of out; answers how many there are.
