@@ -5,7 +5,7 @@ use Prim.Native.Nat.{ℕ, zero, suc, _*_, _/_, _≤_}
 use native.Mathlib.Omega.{arith}
 use lib.ListN.{length, getD, take, length-map}
 use Rattle.geometry.specs.Space.{V3, points-in}
-use Rattle.geometry.specs.Measure.{four-quality}
+use Rattle.shape.specs.Measure.{four-quality}
 use Rattle.geometry.specs.declared.tetrahedron.Four.{Four}
 use Rattle.bench_rules.specs.Bench as B
 use Rattle.bench_rules.specs.Bench.{opened, held, mesh-fours, mesh-qualities}

@@ -10,7 +10,7 @@ use lib.ListN.{length, getD, take, drop}
 use lib.IntN.{ℤ}
 use Rattle.geometry.specs.Space.{V3, four, points-in, solid}
 use Rattle.geometry.specs.Range.{any-far}
-use Rattle.geometry.specs.Measure.{four-quality, four-entry}
+use Rattle.shape.specs.Measure.{four-quality, four-entry}
 use Rattle.geometry.specs.declared.tetrahedron.Four.{Four}
 use Rattle.laws.specs.Laws.{Job, Tri, all-faces, has, once, reversed, corner-of, worst, bytes, fours-in}
 use Rattle.laws.specs.Lists.{job-lists}

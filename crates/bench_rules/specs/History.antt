@@ -9,7 +9,7 @@ use lib.ListN.{length, getD}
 use lib.IntN.{ℤ}
 use Rattle.geometry.specs.Space.{points-in}
 use Rattle.geometry.specs.declared.tetrahedron.Four.{Four}
-use Rattle.geometry.specs.Measure.{D-of}
+use Rattle.shape.specs.Measure.{D-of}
 use Rattle.laws.specs.Laws.{Best, worst, quality, entry}
 use Rattle.laws.specs.Lists.{job-lists}
 use Rattle.laws.specs.Check.{job-refusal}

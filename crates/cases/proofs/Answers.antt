@@ -5,8 +5,8 @@ use Prim.Native.Nat.{ℕ}
 use native.Mathlib.Omega.{arith}
 use lib.ListN.{length}
 use lib.IntN.{ℤ}
-use Rattle.geometry.specs.Measure.{number-of, millionths-of, sizes, Measures}
-use Rattle.geometry.specs.declared.measure.Measured.{Measured}
+use Rattle.shape.specs.Measure.{number-of, millionths-of, sizes, Measures}
+use Rattle.shape.specs.declared.measure.Measured.{Measured}
 use Rattle.laws.specs.Lists.{Lists}
 use Rattle.laws.specs.Choice.{Choice}
 use Rattle.laws.proofs.Basics.Tests.{contradiction}

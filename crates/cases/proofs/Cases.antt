@@ -7,7 +7,7 @@ use lib.Dec.{ltb, eqb}
 use lib.IntN.{ℤ}
 use borrow.Author.Tests.{ltb-true, eqb-true, not-true}
 use Rattle.geometry.specs.Space.{four, points-in}
-use Rattle.geometry.specs.Measure.{D-of, S-of, double, shape-number, shape-of, millionths, measure-refusal, is-flat, measured, measured-as, measured-four, measured-when}
+use Rattle.shape.specs.Measure.{D-of, S-of, double, shape-number, shape-of, millionths, measure-refusal, is-flat, measured, measured-as, measured-four, measured-when}
 use Rattle.geometry.specs.declared.tetrahedron.Four.{Four}
 use Rattle.laws.specs.Laws.{Job, lawful, worst, list-before}
 use Rattle.laws.specs.Check.{job, job-refusal}

@@ -2,7 +2,7 @@
 use Prim.Native.Nat.{ℕ}
 use Rattle.geometry.specs.Space.{z, of, plus, minus, times, above, equal, v3, less, cross, dot, is-zero, same-place, det, points-in, point, four, D, solid, turned, inside, corners, all-below, each-below, parts-them, any-parts, normal, normals, edges-of, crosses, all-crosses, directions, apart}
 use Rattle.geometry.specs.Range.{far, any-far}
-use Rattle.geometry.specs.Measure.{measure-refusal, magnitude, D-of, square, S-of, double, shape-number, clamped, millionths, is-flat}
+use Rattle.shape.specs.Measure.{measure-refusal, magnitude, D-of, square, S-of, double, shape-number, clamped, millionths, is-flat}
 use Rattle.laws.specs.Laws.{tri, choose, before-first, place, entry, quality, rising, four-before, law-1, law-2, none-inside, law-3, faces, all-faces, same-tri, reversed, has, once, all-in, matched, law-4, apart-all, law-5, corner-of, is-corner, corners-from, law-6, holds-edge, all-kept, law-7, broken, lawful, worst-from, worst, list-before, fours-in}
 use Rattle.laws.specs.Fours.{from, rest, with-each, all-fours, same-four}
 use Rattle.laws.specs.Check.{place-taken, two-alike, tris-in, edges-in, tri-bad, any-tri-bad, tri-taken, tris-alike, directed, how-often, unmatched, edge-bad, entry-bad, any-entry-bad, unmeasured, over, solid-unmeasured, job, refusal, first-refusal, refusals, job-refusal}

@@ -4,9 +4,9 @@ use mathlib.Core.Bool.{true}
 use mathlib.Core.List.{List}
 use Prim.Native.Nat.{ℕ, _≤_}
 use lib.ListN.{length}
-use Rattle.geometry.specs.Measure.{double, number-of, millionths-of, Measures}
+use Rattle.shape.specs.Measure.{double, number-of, millionths-of, Measures}
 use Rattle.geometry.specs.declared.tetrahedron.Four.{Four}
-use Rattle.geometry.specs.declared.measure.Measured.{Measured}
+use Rattle.shape.specs.declared.measure.Measured.{Measured}
 use Rattle.laws.specs.Laws.{bytes}
 use Rattle.laws.specs.Check.{job-refusal}
 use Rattle.judge.specs.Judge.{Judge-says}

@@ -7,10 +7,10 @@ use Prim.Native.Nat.{ℕ, _<_}
 use Prim.Native.String.{String}
 use lib.IntN.{ℤ, pos, negsuc}
 use Rattle.geometry.specs.Space.{four, points-in}
-use Rattle.geometry.specs.Measure.{D-of, S-of, double, shape-number, millionths, sizes, measured}
+use Rattle.shape.specs.Measure.{D-of, S-of, double, shape-number, millionths, sizes, measured}
 use Rattle.geometry.specs.declared.tetrahedron.Four.{Four}
-use Rattle.geometry.specs.declared.measure.Measured.{Measured}
-use Rattle.geometry.specs.declared.measure.Measurement.the-variants.{Shape}
+use Rattle.shape.specs.declared.measure.Measured.{Measured}
+use Rattle.shape.specs.declared.measure.Measurement.the-variants.{Shape}
 use Rattle.laws.specs.Laws.{Job, entry, quality, lawful, worst, list-before}
 use Rattle.laws.specs.Check.{job, job-refusal}
 use Rattle.laws.specs.Choice.{Choice}

@@ -1,8 +1,8 @@
 // The cavity's table: every four of its points measured, -1 where it is flat. Assumes nothing.
 use checker::table::next_four;
-use geometry::measure::measure_four;
-use geometry::measure::millionths_of;
 use geometry::tetrahedron::Four;
+use shape::measure::measure_four;
+use shape::measure::millionths_of;
 ghost use mathlib.Core.Path.{_≡_};
 ghost use mathlib.Core.Bool.{false};
 ghost use Prim.Native.Nat.{_≤_};
@@ -10,7 +10,7 @@ ghost use lib.ListN.{length};
 ghost use lib.IntN.{pos};
 ghost use Rattle.geometry.specs.Space.{points-in};
 ghost use Rattle.geometry.specs.Range.{any-far, Present};
-ghost use Rattle.geometry.specs.Measure.{four-entry};
+ghost use Rattle.shape.specs.Measure.{four-entry};
 ghost use Rattle.laws.specs.Laws.{choose};
 ghost use Rattle.bench_rules.specs.Bench.{cavity-table};
 ghost use Rattle.bench_rules.specs.inner.Marks.{entries};

@@ -3,8 +3,8 @@ use mathlib.Core.Path.{_≡_, refl, ap, _∙_}
 use mathlib.Core.List.{List}
 use Prim.Native.Nat.{ℕ}
 use lib.IntN.{ℤ}
-use Rattle.geometry.specs.Measure.{number-of, flat-of, millionths-of, Measures}
-use Rattle.geometry.specs.declared.measure.Measured.{Measured}
+use Rattle.shape.specs.Measure.{number-of, flat-of, millionths-of, Measures}
+use Rattle.shape.specs.declared.measure.Measured.{Measured}
 use Rattle.cottontuff.specs.Measured.{in-one, measured-for-c}
 
 parts-are :

@@ -1,8 +1,8 @@
 -- A measurement in one struct: its number, or 0; whether it is flat; its millionths, or 0; and what is kept with them. Assumes nothing: these are definitions.
 use mathlib.Core.List.{List}
 use lib.IntN.{ℤ}
-use Rattle.geometry.specs.Measure.{number-of, flat-of, millionths-of, measured}
-use Rattle.geometry.specs.declared.measure.Measured.{Measured}
+use Rattle.shape.specs.Measure.{number-of, flat-of, millionths-of, measured}
+use Rattle.shape.specs.declared.measure.Measured.{Measured}
 use Rattle.cottontuff.specs.declared.measured.Measured as C
 
 unfoldable pub in-one : Measured → C.Measured

@@ -1,8 +1,8 @@
 // A measurement in one struct for C. Assumes nothing.
-use geometry::measure::flat_of;
-use geometry::measure::measure;
-use geometry::measure::millionths_of;
-use geometry::measure::number_of;
+use shape::measure::flat_of;
+use shape::measure::measure;
+use shape::measure::millionths_of;
+use shape::measure::number_of;
 ghost use mathlib.Core.Path.{_≡_};
 ghost use Rattle.cottontuff.specs.Measured.{measured-for-c};
 

@@ -21,14 +21,14 @@ pub struct Four {
 }
 
 // Its corners as points.
-pub(crate) struct Corners {
-    pub(crate) a: Vector,
-    pub(crate) b: Vector,
-    pub(crate) c: Vector,
-    pub(crate) d: Vector,
+pub struct Corners {
+    pub a: Vector,
+    pub b: Vector,
+    pub c: Vector,
+    pub d: Vector,
 }
 
-pub(crate) fn corner_points(points: &[i32], f: Four) -> Corners
+pub fn corner_points(points: &[i32], f: Four) -> Corners
     requires { ⌜ Present (now points) f ⌝ }
     ensures { λ r. ⌜ (r ≡ corners-of (points-in (now (points .entry))) f) × In-range r ⌝ }
 {

@@ -12,10 +12,10 @@ ghost use Rattle.geometry.specs.Range.{any-far, furthest};
 ghost use Rattle.geometry.specs.inner.Bounded.{longest, widest, Bounded};
 
 // A point, an edge or a direction.
-pub(crate) struct Vector {
-    pub(crate) x: i64,
-    pub(crate) y: i64,
-    pub(crate) z: i64,
+pub struct Vector {
+    pub x: i64,
+    pub y: i64,
+    pub z: i64,
 }
 
 pub(crate) fn coordinate(points: &[i32], i: usize) -> i64
@@ -36,7 +36,7 @@ pub(crate) fn point(points: &[i32], p: usize) -> Vector
 }
 
 // Two points make an edge.
-pub(crate) fn minus(a: Vector, b: Vector) -> Vector
+pub fn minus(a: Vector, b: Vector) -> Vector
     requires { ⌜ Bounded furthest a × Bounded furthest b ⌝ }
     ensures { λ r. ⌜ (r ≡ difference a b) × Bounded longest r ⌝ }
 {
@@ -48,7 +48,7 @@ pub(crate) fn minus(a: Vector, b: Vector) -> Vector
 }
 
 // Two edges make a direction.
-pub(crate) fn cross(a: Vector, b: Vector) -> Vector
+pub fn cross(a: Vector, b: Vector) -> Vector
     requires { ⌜ Bounded longest a × Bounded longest b ⌝ }
     ensures { λ r. ⌜ (r ≡ cross-product a b) × Bounded widest r ⌝ }
 {
@@ -60,14 +60,14 @@ pub(crate) fn cross(a: Vector, b: Vector) -> Vector
 }
 
 // A direction with a point or an edge.
-pub(crate) fn dot(n: Vector, p: Vector) -> i64
+pub fn dot(n: Vector, p: Vector) -> i64
     requires { ⌜ Bounded widest n × Bounded longest p ⌝ }
     ensures { λ r. ⌜ r ≡ dot-product n p ⌝ }
 {
     n.x * p.x + (n.y * p.y + n.z * p.z)
 }
 
-pub(crate) fn is_zero(v: i64) -> bool
+pub fn is_zero(v: i64) -> bool
     ensures { λ r. ⌜ r ≡ eqb (natAbs v) 0 ⌝ }
 {
     v == 0

@@ -8,9 +8,9 @@ use lib.ListN.{length}
 use lib.IntN.{ℤ, pos, negsuc}
 use borrow.Author.Tests.{ltb-true, ltb-false}
 use Rattle.geometry.specs.Space.{points-in, D, turned, apart, value}
-use Rattle.geometry.specs.Measure.{number-of, millionths-of, Measures}
+use Rattle.shape.specs.Measure.{number-of, millionths-of, Measures}
 use Rattle.geometry.specs.declared.tetrahedron.Four.{Four}
-use Rattle.geometry.specs.declared.measure.Measured.{Measured}
+use Rattle.shape.specs.declared.measure.Measured.{Measured}
 use Rattle.geometry_c.specs.Checked.{present, yes-or-no, answer, apart-answer, volume-found, volume-refused, volume-answer, turned-answer, four-from, Row, measure-of, measure-answer}
 use Rattle.geometry_c.proofs.Presence.{second-false, row-absent, from-absent}
 

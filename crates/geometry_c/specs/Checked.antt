@@ -8,9 +8,9 @@ use lib.ListN.{length}
 use lib.IntN.{ℤ, pos, negsuc}
 use Rattle.geometry.specs.Space.{points-in, point, four, D, solid, turned, inside, apart, value}
 use Rattle.geometry.specs.Range.{any-far}
-use Rattle.geometry.specs.Measure.{measured, number-of, millionths-of}
+use Rattle.shape.specs.Measure.{measured, number-of, millionths-of}
 use Rattle.geometry.specs.declared.tetrahedron.Four.{Four}
-use Rattle.geometry.specs.declared.measure.Measured.{Measured}
+use Rattle.shape.specs.declared.measure.Measured.{Measured}
 use Rattle.geometry_c.specs.declared.checked.Volume.{Volume}
 use Rattle.geometry_c.specs.declared.Measure.{Measure}
 

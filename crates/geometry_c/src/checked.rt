@@ -1,13 +1,13 @@
 // The geometry of any coordinates and any numbers of points: what is out of range, or names no point, is refused.
 ghost use mathlib.Core.Path.{_≡_};
 ghost use Rattle.geometry_c.specs.Checked.{present, solid-answer, inside-answer, apart-answer, volume-answer, turned-answer};
-use geometry::apart::are_apart;
 use geometry::range::any_far;
 use geometry::tetrahedron::Four;
 use geometry::tetrahedron::is_inside;
 use geometry::tetrahedron::is_solid;
 use geometry::tetrahedron::oriented;
 use geometry::tetrahedron::signed_volume;
+use separation::apart::are_apart;
 
 pub const NO: i32 = 0;
 

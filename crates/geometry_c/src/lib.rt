@@ -13,10 +13,10 @@ use checked::apart;
 use checked::inside;
 use checked::is_present;
 use checked::volume_of;
-use geometry::measure::measure;
-use geometry::measure::millionths_of;
-use geometry::measure::number_of;
 use geometry::tetrahedron::Four;
+use shape::measure::measure;
+use shape::measure::millionths_of;
+use shape::measure::number_of;
 
 #[repr(C)]
 pub struct Measure {

@@ -8,7 +8,7 @@ use native.Mathlib.Omega.{arith}
 use lib.ListN.{length, getD, length-map}
 use lib.IntN.{ℤ}
 use Rattle.geometry.specs.Space.{V3, four, points-in}
-use Rattle.geometry.specs.Measure.{four-quality}
+use Rattle.shape.specs.Measure.{four-quality}
 use Rattle.geometry.specs.declared.tetrahedron.Four.{Four}
 use Rattle.laws.specs.Fours.{from}
 use Rattle.laws.proofs.Basics.Lists.{Each, each-map, each-append, each-of-members}

@@ -1,10 +1,10 @@
 // The insides of the tetrahedra of a list: no point lies in one (document 01, law 3), and every two are apart (law 5).
 // Assumes nothing.
 use crate::fours::four_at;
-use geometry::apart::are_apart;
 use geometry::tetrahedron::Four;
 use geometry::tetrahedron::is_inside;
 use geometry::tetrahedron::oriented;
+use separation::apart::are_apart;
 ghost use mathlib.Core.Path.{_≡_};
 ghost use Prim.Native.Nat.{_+_, _/_, _<_};
 ghost use lib.ListN.{length};

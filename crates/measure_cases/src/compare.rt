@@ -1,9 +1,9 @@
 // A measurement beside what a case says of it.
 use crate::case::Expected;
-use geometry::measure::Measured;
-use geometry::measure::Measurement;
-use geometry::measure::Sizes;
-use geometry::measure::millionths_of;
+use shape::measure::Measured;
+use shape::measure::Measurement;
+use shape::measure::Sizes;
+use shape::measure::millionths_of;
 
 // Whether x is the whole number n. A whole number up to 2^53 is a double without loss, so nothing is rounded here.
 fn is_whole(x: f64, n: u64) -> bool {

@@ -2,9 +2,6 @@
 use crate::case::result_of;
 use crate::compare::agrees;
 use crate::compare::tells;
-use geometry::measure::Measured;
-use geometry::measure::Measurement;
-use geometry::measure::measure;
 use lines::list::integers;
 use lines::tally::next;
 use lines::tally::print;
@@ -12,6 +9,9 @@ use lines::tally::print_count;
 use lines::text::after;
 use lines::text::before;
 use lines::text::past;
+use shape::measure::Measured;
+use shape::measure::Measurement;
+use shape::measure::measure;
 
 pub struct Tally {
     pub lines: u64,

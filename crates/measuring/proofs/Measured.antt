@@ -6,7 +6,7 @@ use native.Mathlib.Omega.{arith}
 use lib.ListN.{length, length-map}
 use lib.IntN.{ℤ, pos}
 use Rattle.geometry.specs.Space.{points-in}
-use Rattle.geometry.specs.Measure.{four-entry}
+use Rattle.shape.specs.Measure.{four-entry}
 use Rattle.laws.specs.Laws.{choose}
 use Rattle.laws.specs.Fours.{all-fours}
 use Rattle.laws.proofs.Order.TablePlace.{fours-most}

@@ -8,7 +8,7 @@ use lib.ListN.{length}
 use lib.IntN.{ℤ, pos, negsuc}
 use Rattle.geometry.specs.Range.{any-far}
 use Rattle.geometry.specs.Space.{points-in}
-use Rattle.geometry.specs.Measure.{four-entry}
+use Rattle.shape.specs.Measure.{four-entry}
 use Rattle.laws.specs.Laws.{choose}
 use Rattle.laws.specs.Fours.{all-fours}
 use Rattle.laws.specs.Check.{points-right, two-alike, Refusal, refusal, first-refusal}

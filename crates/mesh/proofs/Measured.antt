@@ -11,9 +11,9 @@ use lib.Seq.{drop-cons}
 use lib.IntN.{ℤ}
 use Rattle.geometry.specs.Space.{V3, points-in}
 use Rattle.geometry.specs.declared.tetrahedron.Four.{Four}
-use Rattle.geometry.specs.declared.measure.Measurement.{Measurement}
-use Rattle.geometry.specs.declared.measure.Measured.{Measured}
-use Rattle.geometry.specs.Measure.{is-flat, shape-of, measured-when, measured-four, millionths, millionths-of, four-quality}
+use Rattle.shape.specs.declared.measure.Measurement.{Measurement}
+use Rattle.shape.specs.declared.measure.Measured.{Measured}
+use Rattle.shape.specs.Measure.{is-flat, shape-of, measured-when, measured-four, millionths, millionths-of, four-quality}
 use Rattle.laws.specs.Laws.{fours-in}
 use Rattle.laws.specs.inner.ListedFours.{four-at, fours-from}
 use Rattle.laws.proofs.Basics.Passes.{Test}

@@ -1,12 +1,12 @@
 // The measured qualities of a mesh's tetrahedra. Assumes nothing.
-use geometry::measure::measure_four;
-use geometry::measure::millionths_of;
 use geometry::tetrahedron::Four;
 use judge::fours::four_at;
+use shape::measure::measure_four;
+use shape::measure::millionths_of;
 ghost use mathlib.Core.Path.{_≡_};
 ghost use Rattle.geometry.specs.Space.{points-in};
 ghost use Rattle.geometry.specs.Range.{Present};
-ghost use Rattle.geometry.specs.Measure.{four-quality};
+ghost use Rattle.shape.specs.Measure.{four-quality};
 ghost use Rattle.bench_rules.specs.Bench.{same-numbers, mesh-qualities};
 ghost use Rattle.bench_rules.specs.inner.Marks.{entries};
 ghost use Rattle.bench_rules.specs.inner.Sound.{Sound-mesh};

@@ -11,7 +11,7 @@ ghost use Rattle.fillings.specs.Steps.{Context};
 ghost use Rattle.signs.specs.Rows.{Rows};
 ghost use Rattle.propagation.specs.Propagation.{Not-apart, Apart-below};
 use crate::cover::four_at;
-use geometry::apart::are_apart;
+use separation::apart::are_apart;
 use signs::sides::parted_by_face;
 
 // Whether every set candidate before k is apart from k.

@@ -9,7 +9,7 @@ use lib.Dec.{eqb, ltb}
 use lib.ListN.{length, getD, length-map, List·getD-map}
 use lib.IntN.{ℤ, pos, negsuc}
 use Rattle.geometry.specs.Space.{V3, four, points-in, solid}
-use Rattle.geometry.specs.Measure.{four-entry}
+use Rattle.shape.specs.Measure.{four-entry}
 use Rattle.geometry.specs.declared.tetrahedron.Four.{Four}
 use Rattle.laws.specs.Laws.{place, rising, entry}
 use Rattle.laws.specs.Check.{entry-bad, any-entry-bad, unmeasured, solid-unmeasured, job}

@@ -10,7 +10,7 @@ use lib.Dec.{leb, eqb}
 use lib.ListN.{length, getD, length-map, length-append}
 use lib.IntN.{ℤ, pos, negsuc}
 use Rattle.geometry.specs.Space.{V3, points-in}
-use Rattle.geometry.specs.Measure.{millionths, is-flat, shape-of, four-entry}
+use Rattle.shape.specs.Measure.{millionths, is-flat, shape-of, four-entry}
 use Rattle.geometry.specs.declared.tetrahedron.Four.{Four}
 use Rattle.laws.specs.Laws.{choose}
 use Rattle.laws.specs.Check.{job-refusal}

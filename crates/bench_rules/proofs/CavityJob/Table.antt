@@ -9,7 +9,7 @@ use lib.Dec.{ltb}
 use lib.ListN.{length, getD, length-map, List·getD-map}
 use lib.IntN.{ℤ, pos, negsuc}
 use Rattle.geometry.specs.Space.{V3, four, points-in, D, solid, equal, zero-z}
-use Rattle.geometry.specs.Measure.{millionths, magnitude, D-of, is-flat, shape-of, four-entry}
+use Rattle.shape.specs.Measure.{millionths, magnitude, D-of, is-flat, shape-of, four-entry}
 use Rattle.geometry.specs.declared.tetrahedron.Four.{Four}
 use Rattle.laws.specs.Laws.{choose, place, entry, rising}
 use Rattle.laws.specs.Lists.{job-lists}

@@ -8,7 +8,7 @@ use borrow.Author.Tests.{ltb-false}
 use lib.Dec.{ltb}
 use lib.Ieee.{Float}
 use Rattle.geometry.specs.Space.{V3}
-use Rattle.geometry.specs.Measure.{clamped, millionths, is-flat, shape-of, four-quality}
+use Rattle.shape.specs.Measure.{clamped, millionths, is-flat, shape-of, four-quality}
 use Rattle.geometry.specs.declared.tetrahedron.Four.{Four}
 
 clamped-between : (w : ℕ) → (1 ≤ clamped w) × (clamped w ≤ 1000000)

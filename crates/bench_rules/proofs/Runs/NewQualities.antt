@@ -7,7 +7,7 @@ use native.Mathlib.Omega.{arith}
 use lib.ListN.{length, getD, length-map}
 use lib.IntN.{pos, negsuc}
 use Rattle.geometry.specs.Space.{V3, four, points-in}
-use Rattle.geometry.specs.Measure.{D-of, S-of, is-flat, shape-of, millionths, four-quality, four-entry}
+use Rattle.shape.specs.Measure.{D-of, S-of, is-flat, shape-of, millionths, four-quality, four-entry}
 use Rattle.geometry.specs.declared.tetrahedron.Four.{Four}
 use Rattle.laws.specs.Laws.{Job, entry, quality, worst, worst-from}
 use Rattle.laws.specs.Check.{job}

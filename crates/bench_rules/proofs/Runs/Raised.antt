@@ -9,7 +9,7 @@ use borrow.Author.Tests.{ltb-true}
 use lib.Dec.{ltb}
 use lib.ListN.{length}
 use Rattle.geometry.specs.Space.{points-in}
-use Rattle.geometry.specs.Measure.{four-quality}
+use Rattle.shape.specs.Measure.{four-quality}
 use Rattle.geometry.specs.declared.tetrahedron.Four.{Four}
 use Rattle.laws.specs.Laws.{worst, once, all-faces}
 use Rattle.laws.specs.Choice.{Choice}

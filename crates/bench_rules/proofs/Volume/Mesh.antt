@@ -5,9 +5,9 @@ use mathlib.Core.List.{List}
 use Prim.Native.Nat.{ℕ, zero, suc, _+_}
 use lib.IntN.{ℤ, pos, negsuc, negℤ, _+ℤ_, natAbs}
 use Rattle.geometry.specs.Space.{V3, four, point, points-in, D, turned, above, zero-z, value}
-use Rattle.geometry.specs.Measure.{D-of, magnitude}
+use Rattle.shape.specs.Measure.{D-of, magnitude}
 use Rattle.geometry.specs.declared.tetrahedron.Four.{Four}
-use Rattle.geometry.proofs.Measuring.Answers.{magnitude-value}
+use Rattle.shape.proofs.Measuring.Answers.{magnitude-value}
 use Rattle.geometry.proofs.Space.Volume.{det-swapped, turned-positive}
 use Rattle.laws.proofs.Basics.Lists.{Each, none, more}
 use Rattle.laws.proofs.Basics.Sums.{total}

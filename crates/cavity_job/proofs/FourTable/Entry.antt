@@ -6,7 +6,7 @@ use Prim.Native.Nat.{ℕ, _≤_}
 use native.Mathlib.Omega.{arith}
 use lib.IntN.{pos, negsuc}
 use Rattle.geometry.specs.Space.{V3}
-use Rattle.geometry.specs.Measure.{millionths, is-flat, shape-of, measured-when, measured-four, millionths-of, four-entry}
+use Rattle.shape.specs.Measure.{millionths, is-flat, shape-of, measured-when, measured-four, millionths-of, four-entry}
 use Rattle.geometry.specs.declared.tetrahedron.Four.{Four}
 use Rattle.bench_rules.proofs.Mesh.Millionths.{millionths-between}
 

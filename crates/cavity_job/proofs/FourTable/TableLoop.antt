@@ -8,7 +8,7 @@ use lib.ListN.{length, set, replicate, length-append, length-map}
 use lib.IntN.{ℤ, pos}
 use Rattle.geometry.specs.Space.{four, points-in}
 use Rattle.geometry.specs.Range.{any-far, Present}
-use Rattle.geometry.specs.Measure.{four-entry}
+use Rattle.shape.specs.Measure.{four-entry}
 use Rattle.geometry.specs.declared.tetrahedron.Four.{Four}
 use Rattle.laws.specs.Laws.{choose}
 use Rattle.laws.specs.Fours.{all-fours}

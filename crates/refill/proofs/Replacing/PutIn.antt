@@ -11,7 +11,7 @@ use lib.ListN.{length, take, replicate}
 use lib.IntN.{ℤ}
 use lib.Seq.{take-all}
 use Rattle.geometry.specs.Space.{four, points-in}
-use Rattle.geometry.specs.Measure.{four-quality}
+use Rattle.shape.specs.Measure.{four-quality}
 use Rattle.geometry.specs.declared.tetrahedron.Four.{Four}
 use Rattle.laws.specs.Laws.{once, bytes, fours-in}
 use Rattle.bench_rules.specs.Bench.{Bench, Done, mesh-fours, mesh-qualities, put-in, done, refused}

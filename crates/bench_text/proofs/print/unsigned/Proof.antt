@@ -5,7 +5,7 @@ use Prim.Native.Nat.{_≤_}
 use lib.IntN.{pos, natAbs}
 use mir.Facts.{toZ-ofZ}
 use Rattle.geometry.proofs.Numbers.Machine.{leaf, plain, sub, sub-fits}
-use Rattle.geometry.proofs.Measuring.Answers.{negated, nonnegative}
+use Rattle.shape.proofs.Measuring.Answers.{negated, nonnegative}
 use Rattle.bench_text.proofs.print.unsigned.Statement.{statement}
 use Rattle.bench_text.proofs.print.unsigned.Tie as tie
 

@@ -5,8 +5,8 @@ use borrow.Author.Needs.{needs}
 use mir.Syntax.{w32}
 use mir.Facts.{toZ-pos}
 use Rattle.geometry.specs.Space.{points-in}
-use Rattle.geometry.specs.Measure.{millionths-of}
-use Rattle.geometry.specs.declared.measure.Measured.{Measured}
+use Rattle.shape.specs.Measure.{millionths-of}
+use Rattle.shape.specs.declared.measure.Measured.{Measured}
 use Rattle.cavity_job.proofs.FourTable.Entry.{entry-small, entry-flat, entry-solid}
 use Rattle.cavity_job.proofs.table.entry_of.Statement.{statement}
 use Rattle.cavity_job.proofs.table.entry_of.Tie as tie

@@ -4,7 +4,7 @@ use mathlib.Core.Path.{_≡_, refl, ap, _∙_}
 use Prim.Native.Nat.{_≤_, _-_, _/_}
 use lib.ListN.{length}
 use Rattle.geometry.specs.Space.{points-in}
-use Rattle.geometry.specs.Measure.{four-quality}
+use Rattle.shape.specs.Measure.{four-quality}
 use Rattle.bench_rules.specs.inner.Marks.{entries}
 use Rattle.bench_rules.proofs.Mesh.Fours.{present-at}
 use Rattle.mesh.proofs.Measured.{qualities-in, qualities-none, qualities-put, qualities-all}
