@@ -5,12 +5,12 @@ ghost use Rattle.fillings.specs.Tables.{All-below, Boundary-codes, Named};
 use signs::codes::face_code;
 
 pub struct Boundary {
-    pub code: [u16; 560],
+    pub code: [u16; 4096],
 }
 
 // Flags by face code.
 pub struct Flags {
-    pub flag: [u8; 4096],
+    pub flag: [u16; 4096],
 }
 
 // The numbers of the boundary triangles, in their order.
@@ -18,7 +18,7 @@ pub fn boundary_codes(triangles: &[u8]) -> Boundary
     requires { ⌜ (length (now triangles) / 3 ≤ 560) × All-below 16 (length (now triangles) / 3 * 3) (now triangles) ⌝ }
     ensures { λ r. ⌜ Boundary-codes (now (triangles .entry)) (r .code) × All-below 4096 (length (now (triangles .entry)) / 3) (r .code) ⌝ }
 {
-    let mut r = Boundary { code: [0; 560] };
+    let mut r = Boundary { code: [0; 4096] };
     for i in 0..triangles.len() / 3 {
         let a = triangles[i * 3] as usize;
         let b = triangles[i * 3 + 1] as usize;

@@ -77,7 +77,7 @@ pub fn piercing_sets(
     rows: &[u16],
     fours: &[u8],
     codes: &[u16],
-    bound: &[u8],
+    bound: &[u16],
     m: usize,
     piercing: &mut [u16],
 )
@@ -89,23 +89,19 @@ pub fn piercing_sets(
     }
 }
 
-// The chains of owners: from `head` of a face through `next`, 4 times a candidate's number and the place of the face in it. Nothing rests on what they have.
-pub fn chain(codes: &[u16], m: usize, head: &mut [u16], next: &mut [u16])
-    requires { ⌜ Coded m (now codes) × (length (now head) ≡ 4096) × (length (now next) ≡ 7280) ⌝ }
-    ensures { λ _. ⌜ (length (now (head .exit)) ≡ 4096) × (length (now (next .exit)) ≡ 7280) ⌝ }
+// The chains of owners: from the first row's entry of a face through the second row, 4 times a candidate's number and the place of the face in it. Nothing rests on what they have.
+pub fn chain(codes: &[u16], m: usize, links: &mut [[u16; 7280]; 2])
+    requires { ⌜ Coded m (now codes) ⌝ }
 {
-    clear_heads(head);
+    clear_heads(&mut links[0]);
     for j in 0..m * 4 {
         let c = codes[j] as usize;
-        next[j] = head[c];
-        head[c] = j as u16;
+        links[1][j] = links[0][c];
+        links[0][c] = j as u16;
     }
 }
 
-fn clear_heads(head: &mut [u16])
-    requires { ⌜ length (now head) ≡ 4096 ⌝ }
-    ensures { λ _. ⌜ length (now (head .exit)) ≡ 4096 ⌝ }
-{
+fn clear_heads(head: &mut [u16; 7280]) {
     for c in 0..4096 {
         head[c] = 65535;
     }

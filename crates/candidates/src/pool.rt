@@ -1,6 +1,6 @@
 // Pools of candidates: the fours that a lawful filling can hold, each by itself, gathered in order with their faces' numbers and their qualities.
 ghost use mathlib.Core.Path.{_≡_};
-ghost use mathlib.Core.Bool.{true, _||_};
+ghost use mathlib.Core.Bool.{_||_};
 ghost use mathlib.Core.List.{List};
 ghost use Prim.Native.Nat.{_+_, _*_, _/_, _<_, _≤_};
 ghost use lib.Dec.{ltb};
@@ -12,7 +12,8 @@ ghost use Rattle.laws.specs.Check.{job, job-refusal};
 ghost use Rattle.laws.specs.inner.FaceCodes.{face-code, flip-code};
 ghost use Rattle.laws.specs.inner.NextFour.{Ordered};
 ghost use Rattle.fillings.specs.Codes.{Bound-flags};
-ghost use Rattle.fillings.specs.Filing.{put-four, put-faces, copied, Considered};
+ghost use Rattle.fillings.specs.Filing.{put-four, put-faces, copied};
+ghost use Rattle.candidates.specs.Grades.{Graded};
 ghost use Rattle.fillings.specs.Marks.{marked};
 ghost use Rattle.fillings.specs.Part.{candidate};
 ghost use Rattle.fillings.specs.Pierce.{pierces-four, pierced};
@@ -48,25 +49,30 @@ fn face_codes(f: Four) -> Faces
     }
 }
 
-// Whether some face has its reverse on the boundary.
-fn backs_boundary(bound: &[u8], c: Faces) -> bool
+// Whether the reverse of a face is on the boundary.
+fn backs(bound: &[u16], c: u16) -> bool
+    requires { ⌜ (length (now bound) ≡ 4096) × (c < 4096) ⌝ }
+    ensures { λ r. ⌜ r ≡ ltb 0 (getD (now (bound .entry)) (flip-code c) 0) ⌝ }
+{
+    let d = flip(c as usize);
+    bound[d] > 0
+}
+
+// Whether that of some face is.
+fn backs_boundary(bound: &[u16], c: Faces) -> bool
     requires { ⌜ (length (now bound) ≡ 4096) × ((c .a < 4096) × (c .b < 4096) × (c .c < 4096) × (c .d < 4096)) ⌝ }
     ensures { λ r. ⌜ r ≡ ltb 0 (getD (now (bound .entry)) (flip-code (c .a)) 0) || (ltb 0 (getD (now (bound .entry)) (flip-code (c .b)) 0) || (ltb 0 (getD (now (bound .entry)) (flip-code (c .c)) 0) || ltb 0 (getD (now (bound .entry)) (flip-code (c .d)) 0))) ⌝ }
 {
-    let a = flip(c.a as usize);
-    if bound[a] > 0 {
+    if backs(bound, c.a) {
         return true;
     }
-    let b = flip(c.b as usize);
-    if bound[b] > 0 {
+    if backs(bound, c.b) {
         return true;
     }
-    let d = flip(c.c as usize);
-    if bound[d] > 0 {
+    if backs(bound, c.c) {
         return true;
     }
-    let e = flip(c.d as usize);
-    bound[e] > 0
+    backs(bound, c.d)
 }
 
 // Whether the edge from a to b runs through a face of f.
@@ -115,7 +121,7 @@ fn can_stand(
     kept: &[u8],
     table: &[i32],
     rows: &[u16],
-    bound: &[u8],
+    bound: &[u16],
     n: usize,
     f: Four,
 ) -> bool
@@ -161,9 +167,9 @@ fn put_faces(codes: &mut [u16], k: usize, c: Faces)
 fn file(
     points: &[i32],
     rows: &[u16],
-    fours: &mut [u8],
-    codes: &mut [u16],
-    qualities: &mut [u32],
+    fours: &mut [u8; 7280],
+    codes: &mut [u16; 7280],
+    qualities: &mut [u32; 1820],
     k: usize,
     f: Four,
     q: u32,
@@ -177,39 +183,34 @@ fn file(
     qualities[k] = q;
 }
 
-// Files f where it is a candidate of quality q at least; how many are filed then.
-fn consider_four(
+// The quality of f where it is a candidate of quality q at least, and 0 where it is none.
+fn grade(
     points: &[i32],
     triangles: &[u8],
     kept: &[u8],
     table: &[i32],
     rows: &[u16],
-    bound: &[u8],
+    bound: &[u16],
     n: usize,
     q: u32,
     f: Four,
     at: usize,
-    fours: &mut [u8],
-    codes: &mut [u16],
-    qualities: &mut [u32],
-    k: usize,
-) -> usize
-    requires { ⌜ (job-refusal (job-lists (now points) (now triangles) (now kept) (now table)) ≡ 0) × Rows (points-in (now points)) (now rows) × Bound-flags (job (job-lists (now points) (now triangles) (now kept) (now table)) .triangles) (now bound) × (length (now bound) ≡ 4096) × (n ≡ length (points-in (now points))) × Ordered n f × (at ≡ place n f) × (0 < q) × (length (now fours) ≡ 7280) × (length (now codes) ≡ 7280) × (length (now qualities) ≡ 1820) × (candidate (job (job-lists (now points) (now triangles) (now kept) (now table))) f ≡ true → k < 1820) ⌝ }
-    ensures { λ r. ⌜ Considered (job (job-lists (now (points .entry)) (now (triangles .entry)) (now (kept .entry)) (now (table .entry)))) q f (now (fours .entry)) (now (codes .entry)) (now (qualities .entry)) k (now (fours .exit)) (now (codes .exit)) (now (qualities .exit)) r ⌝ }
+) -> u32
+    requires { ⌜ (job-refusal (job-lists (now points) (now triangles) (now kept) (now table)) ≡ 0) × Rows (points-in (now points)) (now rows) × Bound-flags (job (job-lists (now points) (now triangles) (now kept) (now table)) .triangles) (now bound) × (length (now bound) ≡ 4096) × (n ≡ length (points-in (now points))) × Ordered n f × (at ≡ place n f) × (0 < q) ⌝ }
+    ensures { λ r. ⌜ Graded (job (job-lists (now (points .entry)) (now (triangles .entry)) (now (kept .entry)) (now (table .entry)))) q f r ⌝ }
 {
     let e = table[at];
     if e <= 0 {
-        return k;
+        return 0;
     }
     let v = e as u32;
     if v < q {
-        return k;
+        return 0;
     }
     if !can_stand(points, triangles, kept, table, rows, bound, n, f) {
-        return k;
+        return 0;
     }
-    file(points, rows, fours, codes, qualities, k, f, v);
-    k + 1
+    v
 }
 
 // The candidates of quality q at least.
@@ -219,11 +220,11 @@ pub fn gather(
     kept: &[u8],
     table: &[i32],
     rows: &[u16],
-    bound: &[u8],
+    bound: &[u16],
     q: u32,
-    fours: &mut [u8],
-    codes: &mut [u16],
-    qualities: &mut [u32],
+    fours: &mut [u8; 7280],
+    codes: &mut [u16; 7280],
+    qualities: &mut [u32; 1820],
 ) -> usize
     requires { ⌜ (job-refusal (job-lists (now points) (now triangles) (now kept) (now table)) ≡ 0) × Rows (points-in (now points)) (now rows) × Bound-flags (job (job-lists (now points) (now triangles) (now kept) (now table)) .triangles) (now bound) × (length (now bound) ≡ 4096) × (0 < q) × (length (now fours) ≡ 7280) × (length (now codes) ≡ 7280) × (length (now qualities) ≡ 1820) ⌝ }
     ensures { λ r. ⌜ Whole (job-lists (now (points .entry)) (now (triangles .entry)) (now (kept .entry)) (now (table .entry))) q (now (fours .exit)) (now (codes .exit)) (now (qualities .exit)) r ⌝ }
@@ -238,22 +239,11 @@ pub fn gather(
     let mut at: usize = 0;
     let mut k: usize = 0;
     while f.d < n {
-        k = consider_four(
-            points,
-            triangles,
-            kept,
-            table,
-            rows,
-            bound,
-            n,
-            q,
-            f,
-            at,
-            fours,
-            codes,
-            qualities,
-            k,
-        );
+        let v = grade(points, triangles, kept, table, rows, bound, n, q, f, at);
+        if v > 0 {
+            file(points, rows, fours, codes, qualities, k, f, v);
+            k += 1;
+        }
         f = next_four(n, f);
         at += 1;
     }
@@ -266,32 +256,18 @@ fn copy_candidate(
     codes: &[u16],
     qualities: &[u32],
     k: usize,
-    fours2: &mut [u8],
-    codes2: &mut [u16],
-    qualities2: &mut [u32],
+    fours2: &mut [u8; 7280],
+    codes2: &mut [u16; 7280],
+    qualities2: &mut [u32; 1820],
     c: usize,
 )
-    requires { ⌜ (k * 4 + 4 ≤ length (now fours)) × (k * 4 + 4 ≤ length (now codes)) × (k < length (now qualities)) × (c * 4 + 4 ≤ length (now fours2)) × (c * 4 + 4 ≤ length (now codes2)) × (c < length (now qualities2)) ⌝ }
+    requires { ⌜ (k * 4 + 4 ≤ length (now fours)) × (k * 4 + 4 ≤ length (now codes)) × (k < length (now qualities)) × (c < 1820) ⌝ }
     ensures { λ r. ⌜ (now (fours2 .exit) ≡ copied k c (now (fours .entry)) (now (fours2 .entry))) × (now (codes2 .exit) ≡ copied k c (now (codes .entry)) (now (codes2 .entry))) × (now (qualities2 .exit) ≡ set (now (qualities2 .entry)) c (getD (now (qualities .entry)) k 0)) ⌝ }
 {
-    put_four(
-        fours2,
-        c,
-        fours[k * 4],
-        fours[k * 4 + 1],
-        fours[k * 4 + 2],
-        fours[k * 4 + 3],
-    );
-    put_faces(
-        codes2,
-        c,
-        Faces {
-            a: codes[k * 4],
-            b: codes[k * 4 + 1],
-            c: codes[k * 4 + 2],
-            d: codes[k * 4 + 3],
-        },
-    );
+    for i in 0..4 {
+        fours2[c * 4 + i] = fours[k * 4 + i];
+        codes2[c * 4 + i] = codes[k * 4 + i];
+    }
     qualities2[c] = qualities[k];
 }
 
@@ -305,10 +281,10 @@ pub fn compact(
     codes: &[u16],
     qualities: &[u32],
     m: usize,
-    marks: &[u8],
-    fours2: &mut [u8],
-    codes2: &mut [u16],
-    qualities2: &mut [u32],
+    marks: &[u16],
+    fours2: &mut [u8; 7280],
+    codes2: &mut [u16; 7280],
+    qualities2: &mut [u32; 1820],
 ) -> usize
     requires { ⌜ Filed (job-lists (now points) (now triangles) (now kept) (now table)) (now fours) (now codes) (now qualities) m × (m ≤ length (now marks)) × (length (now fours2) ≡ 7280) × (length (now codes2) ≡ 7280) × (length (now qualities2) ≡ 1820) ⌝ }
     ensures { λ r. ⌜ Filed (job-lists (now (points .entry)) (now (triangles .entry)) (now (kept .entry)) (now (table .entry))) (now (fours2 .exit)) (now (codes2 .exit)) (now (qualities2 .exit)) r × (fours-in r (now (fours2 .exit)) ≡ marked 1 (fours-in m (now (fours .entry))) (now (marks .entry))) ⌝ }

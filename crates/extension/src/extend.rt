@@ -1,14 +1,13 @@
 // The search proper: a face goes over the candidates that own it, a corner sets one and passes to the next open face; unused fours fall. Where nothing is found the state is taken back.
 ghost use mathlib.Core.Path.{_≡_};
 ghost use mathlib.Core.Bool.{true, false};
-ghost use Prim.Native.Nat.{_+_, _<_};
-ghost use lib.ListN.{getD};
+ghost use Prim.Native.Nat.{_<_};
+ghost use lib.ListN.{length, getD};
 ghost use Rattle.laws.specs.Laws.{fours-in};
 ghost use Rattle.laws.specs.Lists.{job-lists};
 ghost use Rattle.laws.specs.Check.{job};
 ghost use Rattle.fillings.specs.Steps.{Ready};
-ghost use Rattle.trail.specs.Counts.{Counts};
-ghost use Rattle.trail.specs.State.{Living};
+ghost use Rattle.trail.specs.State.{marks-of, owners-of, held-of, trail-of, In-order};
 ghost use Rattle.propagation.specs.Prepared.{Prepared};
 ghost use Rattle.extension.specs.Explored.{Explored, Explored-corner};
 use placing::place::place;
@@ -46,63 +45,44 @@ pub fn face(
     triangles: &[u8],
     kept: &[u8],
     table: &[i32],
-    rows: &[u16],
+    faces: &[[u16; 4096]; 3],
     fours: &[u8],
     codes: &[u16],
-    boundary: &[u16],
-    bound: &[u8],
-    m: usize,
     corners: &[u16],
     piercing: &[u16],
-    head: &[u16],
-    next: &[u16],
+    links: &[[u16; 7280]; 2],
+    m: usize,
     watch: bool,
     from: usize,
-    marks: &mut [u8],
-    owners: &mut [u16],
-    held: &mut [u16],
-    trail: &mut [u16],
+    state: &mut [[u16; 4096]; 4],
     top: usize,
 ) -> Extension
-    requires { ⌜ Prepared (job-lists (now points) (now triangles) (now kept) (now table)) (now rows) (now fours) (now codes) (now boundary) (now bound) m (now corners) (now piercing) (now head) (now next) × Ready (job (job-lists (now points) (now triangles) (now kept) (now table))) (fours-in m (now fours)) (now marks) × Living m (now codes) (now marks) (now owners) (now trail) top × Counts 2 m (now codes) (now marks) (now held) ⌝ }
-    ensures { λ r. ⌜ Explored (job (job-lists (now (points .entry)) (now (triangles .entry)) (now (kept .entry)) (now (table .entry)))) (fours-in m (now (fours .entry))) m (now (codes .entry)) (now (marks .entry)) (now (held .entry)) (now (trail .entry)) top (r .found) (now (marks .exit)) (now (owners .exit)) (now (held .exit)) (now (trail .exit)) (r .top) ⌝ }
+    requires { ⌜ Prepared (job-lists (now points) (now triangles) (now kept) (now table)) (now faces) (now fours) (now codes) m (now corners) (now piercing) × Ready (job (job-lists (now points) (now triangles) (now kept) (now table))) (fours-in m (now fours)) (marks-of (now state)) × In-order m (now codes) (now state) top ⌝ }
+    ensures { λ r. ⌜ Explored (job (job-lists (now (points .entry)) (now (triangles .entry)) (now (kept .entry)) (now (table .entry)))) (fours-in m (now (fours .entry))) m (now (codes .entry)) (marks-of (now (state .entry))) (held-of (now (state .entry))) (trail-of (now (state .entry))) top (r .found) (marks-of (now (state .exit))) (owners-of (now (state .exit))) (held-of (now (state .exit))) (trail-of (now (state .exit))) (r .top) × (length (now (state .exit)) ≡ 4) ⌝ }
 {
     let z = propagate(
         points,
         triangles,
         kept,
         table,
-        rows,
+        faces,
         fours,
         codes,
-        boundary,
-        bound,
-        m,
         corners,
         piercing,
-        head,
-        next,
+        links,
+        m,
         watch,
         from,
-        marks,
-        owners,
-        held,
-        trail,
+        state,
         top,
     );
     let kind = z.kind;
     let at = z.face;
     let mut end = z.top;
-    if kind == 0 {
+    if kind < 2 {
         return Extension {
-            found: false,
-            nodes: 1,
-            top: end,
-        };
-    }
-    if kind == 1 {
-        return Extension {
-            found: true,
+            found: kind == 1,
             nodes: 1,
             top: end,
         };
@@ -110,47 +90,29 @@ pub fn face(
     let mut nodes: u32 = 1;
     let mut shaved = false;
     for k in 0..m {
-        if marks[k] == 1 {
+        if state[0][k] == 1 {
             if owns(codes, k, at) {
                 let a = corner(
                     points,
                     triangles,
                     kept,
                     table,
-                    rows,
+                    faces,
                     fours,
                     codes,
-                    boundary,
-                    bound,
-                    m,
                     corners,
                     piercing,
-                    head,
-                    next,
+                    links,
+                    m,
                     watch,
                     k,
-                    marks,
-                    owners,
-                    held,
-                    trail,
+                    state,
                     end,
                 );
                 if a.found {
                     return a;
                 }
-                end = discard(
-                    codes,
-                    bound,
-                    m,
-                    held,
-                    head,
-                    next,
-                    k,
-                    marks,
-                    owners,
-                    trail,
-                    end,
-                );
+                end = discard(codes, &faces[2], links, m, k, state, end);
                 nodes = more(nodes, a.nodes);
                 if !shaved {
                     if nodes > PATIENCE {
@@ -160,21 +122,15 @@ pub fn face(
                             triangles,
                             kept,
                             table,
-                            rows,
+                            faces,
                             fours,
                             codes,
-                            boundary,
-                            bound,
-                            m,
                             corners,
                             piercing,
-                            head,
-                            next,
+                            links,
+                            m,
                             watch,
-                            marks,
-                            owners,
-                            held,
-                            trail,
+                            state,
                             end,
                         );
                     }
@@ -195,68 +151,44 @@ pub fn corner(
     triangles: &[u8],
     kept: &[u8],
     table: &[i32],
-    rows: &[u16],
+    faces: &[[u16; 4096]; 3],
     fours: &[u8],
     codes: &[u16],
-    boundary: &[u16],
-    bound: &[u8],
-    m: usize,
     corners: &[u16],
     piercing: &[u16],
-    head: &[u16],
-    next: &[u16],
+    links: &[[u16; 7280]; 2],
+    m: usize,
     watch: bool,
     t: usize,
-    marks: &mut [u8],
-    owners: &mut [u16],
-    held: &mut [u16],
-    trail: &mut [u16],
+    state: &mut [[u16; 4096]; 4],
     top: usize,
 ) -> Extension
-    requires { ⌜ Prepared (job-lists (now points) (now triangles) (now kept) (now table)) (now rows) (now fours) (now codes) (now boundary) (now bound) m (now corners) (now piercing) (now head) (now next) × Ready (job (job-lists (now points) (now triangles) (now kept) (now table))) (fours-in m (now fours)) (now marks) × Living m (now codes) (now marks) (now owners) (now trail) top × Counts 2 m (now codes) (now marks) (now held) × (t < m) × (getD (now marks) t 0 ≡ 1) ⌝ }
-    ensures { λ r. ⌜ Explored-corner (job (job-lists (now (points .entry)) (now (triangles .entry)) (now (kept .entry)) (now (table .entry)))) (fours-in m (now (fours .entry))) m t (now (marks .entry)) (now (owners .entry)) (now (held .entry)) (now (trail .entry)) top (r .found) (now (marks .exit)) (now (owners .exit)) (now (held .exit)) (now (trail .exit)) ⌝ }
+    requires { ⌜ Prepared (job-lists (now points) (now triangles) (now kept) (now table)) (now faces) (now fours) (now codes) m (now corners) (now piercing) × Ready (job (job-lists (now points) (now triangles) (now kept) (now table))) (fours-in m (now fours)) (marks-of (now state)) × In-order m (now codes) (now state) top × (t < m) × (getD (marks-of (now state)) t 0 ≡ 1) ⌝ }
+    ensures { λ r. ⌜ Explored-corner (job (job-lists (now (points .entry)) (now (triangles .entry)) (now (kept .entry)) (now (table .entry)))) (fours-in m (now (fours .entry))) m t (marks-of (now (state .entry))) (owners-of (now (state .entry))) (held-of (now (state .entry))) (trail-of (now (state .entry))) top (r .found) (marks-of (now (state .exit))) (owners-of (now (state .exit))) (held-of (now (state .exit))) (trail-of (now (state .exit))) × (length (now (state .exit)) ≡ 4) ⌝ }
 {
-    let end = place(
-        codes,
-        m,
-        fours,
-        corners,
-        piercing,
-        t,
-        marks,
-        owners,
-        held,
-        trail,
-        top,
-    );
+    let end = place(codes, m, fours, corners, piercing, t, state, top);
     let a = face(
         points,
         triangles,
         kept,
         table,
-        rows,
+        faces,
         fours,
         codes,
-        boundary,
-        bound,
-        m,
         corners,
         piercing,
-        head,
-        next,
+        links,
+        m,
         watch,
         top,
-        marks,
-        owners,
-        held,
-        trail,
+        state,
         end,
     );
     if a.found {
         return a;
     }
-    undo(codes, m, trail, top, a.top, marks, owners);
-    unset(codes, m, t, marks, owners, held);
+    undo(codes, m, top, a.top, state);
+    unset(codes, m, t, state);
     Extension {
         found: false,
         nodes: a.nodes,

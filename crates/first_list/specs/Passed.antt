@@ -18,7 +18,7 @@ pub record Taken (j : Job) (cs : List Four) (k : ℕ) (ms owners held witness : 
   pub marks : ns ≡ ms
   pub alive : owners-now ≡ owners
   pub holds : held-now ≡ held
-  pub trail-long : length ur ≡ 1820
+  pub trail-long : length ur ≡ 4096
   pub same : getD witness k 0 ≡ 2 → mark ≡ witness
   pub yes : taken ≡ true → Fills j cs ms (marked 2 cs mark) × In (nth cs k) (marked 2 cs mark)
   pub no : taken ≡ false → (mark ≡ witness) × ((F : List Four) → Fills j cs ms F → In (nth cs k) F → ⊥)

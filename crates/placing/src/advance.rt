@@ -3,8 +3,7 @@ ghost use mathlib.Core.Path.{_≡_};
 ghost use Prim.Native.Nat.{_*_, _<_, _≤_};
 ghost use lib.ListN.{length, getD};
 ghost use Rattle.fillings.specs.Tables.{All-below};
-ghost use Rattle.trail.specs.Counts.{Counts};
-ghost use Rattle.trail.specs.State.{Coded, Living};
+ghost use Rattle.trail.specs.State.{marks-of, owners-of, held-of, trail-of, Coded, In-order};
 ghost use Rattle.placing.specs.Placement.{Advanced};
 use crate::place::place;
 use trail::marks::drop;
@@ -18,29 +17,14 @@ pub fn advance(
     piercing: &[u16],
     k: usize,
     taken: bool,
-    marks: &mut [u8],
-    owners: &mut [u16],
-    held: &mut [u16],
-    trail: &mut [u16],
+    state: &mut [[u16; 4096]; 4],
     top: usize,
 ) -> usize
-    requires { ⌜ Coded m (now codes) × All-below 16 (m * 4) (now fours) × (m ≤ length (now corners)) × (m * 16 ≤ length (now piercing)) × (k < m) × (getD (now marks) k 0 ≡ 1) × Living m (now codes) (now marks) (now owners) (now trail) top × Counts 2 m (now codes) (now marks) (now held) ⌝ }
-    ensures { λ e. ⌜ Advanced m (now (codes .entry)) (now (fours .entry)) (now (corners .entry)) (now (piercing .entry)) k taken (now (marks .entry)) (now (marks .exit)) (now (owners .exit)) (now (held .exit)) (now (trail .exit)) e ⌝ }
+    requires { ⌜ Coded m (now codes) × All-below 16 (m * 4) (now fours) × (m ≤ length (now corners)) × (m * 16 ≤ length (now piercing)) × (k < m) × (getD (marks-of (now state)) k 0 ≡ 1) × In-order m (now codes) (now state) top ⌝ }
+    ensures { λ e. ⌜ Advanced m (now (codes .entry)) (now (fours .entry)) (now (corners .entry)) (now (piercing .entry)) k taken (marks-of (now (state .entry))) (marks-of (now (state .exit))) (owners-of (now (state .exit))) (held-of (now (state .exit))) (trail-of (now (state .exit))) e × (length (now (state .exit)) ≡ 4) ⌝ }
 {
     if taken {
-        return place(
-            codes,
-            m,
-            fours,
-            corners,
-            piercing,
-            k,
-            marks,
-            owners,
-            held,
-            trail,
-            top,
-        );
+        return place(codes, m, fours, corners, piercing, k, state, top);
     }
-    drop(codes, m, k, marks, owners, trail, top)
+    drop(codes, m, k, state, top)
 }

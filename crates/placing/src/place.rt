@@ -4,8 +4,7 @@ ghost use mathlib.Core.Bool.{true, false};
 ghost use Prim.Native.Nat.{_+_, _*_, _<_, _≤_};
 ghost use lib.ListN.{length, getD};
 ghost use Rattle.fillings.specs.Tables.{All-below};
-ghost use Rattle.trail.specs.Counts.{Counts};
-ghost use Rattle.trail.specs.State.{Coded, Living};
+ghost use Rattle.trail.specs.State.{marks-of, owners-of, held-of, trail-of, Coded, In-order};
 ghost use Rattle.candidates.specs.Clashes.{Crossing};
 ghost use Rattle.placing.specs.Placement.{Blocked, Free, Clashing, Placement};
 use bits::word16::are_disjoint;
@@ -69,21 +68,18 @@ pub fn place(
     corners: &[u16],
     piercing: &[u16],
     t: usize,
-    marks: &mut [u8],
-    owners: &mut [u16],
-    held: &mut [u16],
-    trail: &mut [u16],
+    state: &mut [[u16; 4096]; 4],
     top: usize,
 ) -> usize
-    requires { ⌜ Coded m (now codes) × All-below 16 (m * 4) (now fours) × (m ≤ length (now corners)) × (m * 16 ≤ length (now piercing)) × (t < m) × (getD (now marks) t 0 ≡ 1) × Living m (now codes) (now marks) (now owners) (now trail) top × Counts 2 m (now codes) (now marks) (now held) ⌝ }
-    ensures { λ e. ⌜ Placement m (now (codes .entry)) (now (fours .entry)) (now (corners .entry)) (now (piercing .entry)) t (now (marks .entry)) (now (trail .entry)) top (now (marks .exit)) (now (owners .exit)) (now (held .exit)) (now (trail .exit)) e ⌝ }
+    requires { ⌜ Coded m (now codes) × All-below 16 (m * 4) (now fours) × (m ≤ length (now corners)) × (m * 16 ≤ length (now piercing)) × (t < m) × (getD (marks-of (now state)) t 0 ≡ 1) × In-order m (now codes) (now state) top ⌝ }
+    ensures { λ e. ⌜ Placement m (now (codes .entry)) (now (fours .entry)) (now (corners .entry)) (now (piercing .entry)) t (marks-of (now (state .entry))) (trail-of (now (state .entry))) top (marks-of (now (state .exit))) (owners-of (now (state .exit))) (held-of (now (state .exit))) (trail-of (now (state .exit))) e × (length (now (state .exit)) ≡ 4) ⌝ }
 {
-    set(codes, m, t, marks, owners, held);
+    set(codes, m, t, state);
     let mut end = top;
     for k in 0..m {
-        if marks[k] == 1 {
-            if is_blocked(codes, held, k) || clash(fours, m, corners, piercing, t, k) {
-                end = drop(codes, m, k, marks, owners, trail, end);
+        if state[0][k] == 1 {
+            if is_blocked(codes, &state[2], k) || clash(fours, m, corners, piercing, t, k) {
+                end = drop(codes, m, k, state, end);
             }
         }
     }

@@ -3,7 +3,7 @@ ghost use mathlib.Core.Path.{_≡_};
 ghost use Prim.Native.Nat.{_*_, _<_, _≤_};
 ghost use lib.ListN.{length};
 ghost use Rattle.fillings.specs.Tables.{All-below, Goes-on, On-boundary, Behind-set};
-ghost use Rattle.trail.specs.State.{Coded};
+ghost use Rattle.trail.specs.State.{marks-of, owners-of, held-of, Coded};
 use pruning::open::is_open;
 use trail::codes::flip;
 
@@ -15,7 +15,13 @@ pub struct Choice {
 }
 
 // The better of a choice and the face c.
-pub(crate) fn consider(held: &[u16], bound: &[u8], owners: &[u16], c: usize, best: Choice) -> Choice
+pub(crate) fn consider(
+    held: &[u16],
+    bound: &[u16],
+    owners: &[u16],
+    c: usize,
+    best: Choice,
+) -> Choice
     requires { ⌜ (c < 4096) × (length (now held) ≡ 4096) × (length (now bound) ≡ 4096) × (length (now owners) ≡ 4096) ⌝ }
     ensures { λ r. ⌜ Goes-on (now (held .entry)) (now (bound .entry)) (now (owners .entry)) (λ d. d ≡ c) (best .kind) (best .face) (r .kind) (r .face) ⌝ }
 {
@@ -54,12 +60,11 @@ pub(crate) fn consider(held: &[u16], bound: &[u8], owners: &[u16], c: usize, bes
 pub fn choose_on_boundary(
     boundary: &[u16],
     n: usize,
-    bound: &[u8],
-    held: &[u16],
-    owners: &[u16],
+    bound: &[u16],
+    state: &[[u16; 4096]; 4],
 ) -> Choice
-    requires { ⌜ All-below 4096 n (now boundary) × (length (now held) ≡ 4096) × (length (now bound) ≡ 4096) × (length (now owners) ≡ 4096) ⌝ }
-    ensures { λ r. ⌜ Goes-on (now (held .entry)) (now (bound .entry)) (now (owners .entry)) (On-boundary (now (boundary .entry)) n) 1 0 (r .kind) (r .face) ⌝ }
+    requires { ⌜ All-below 4096 n (now boundary) × (length (now bound) ≡ 4096) × (length (held-of (now state)) ≡ 4096) × (length (owners-of (now state)) ≡ 4096) ⌝ }
+    ensures { λ r. ⌜ Goes-on (held-of (now (state .entry))) (now (bound .entry)) (owners-of (now (state .entry))) (On-boundary (now (boundary .entry)) n) 1 0 (r .kind) (r .face) ⌝ }
 {
     let mut best = Choice {
         kind: 1,
@@ -68,7 +73,7 @@ pub fn choose_on_boundary(
     };
     for i in 0..n {
         let c = boundary[i] as usize;
-        best = consider(held, bound, owners, c, best);
+        best = consider(&state[2], bound, &state[1], c, best);
     }
     best
 }
@@ -77,22 +82,20 @@ pub fn choose_on_boundary(
 pub(crate) fn choose_behind(
     codes: &[u16],
     m: usize,
-    marks: &[u8],
-    bound: &[u8],
-    held: &[u16],
-    owners: &[u16],
+    bound: &[u16],
+    state: &[[u16; 4096]; 4],
     from: Choice,
 ) -> Choice
-    requires { ⌜ Coded m (now codes) × (m ≤ length (now marks)) × (length (now held) ≡ 4096) × (length (now bound) ≡ 4096) × (length (now owners) ≡ 4096) ⌝ }
-    ensures { λ r. ⌜ Goes-on (now (held .entry)) (now (bound .entry)) (now (owners .entry)) (Behind-set (now (codes .entry)) (now (marks .entry)) m) (from .kind) (from .face) (r .kind) (r .face) ⌝ }
+    requires { ⌜ Coded m (now codes) × (length (now bound) ≡ 4096) × (length (held-of (now state)) ≡ 4096) × (length (owners-of (now state)) ≡ 4096) ⌝ }
+    ensures { λ r. ⌜ Goes-on (held-of (now (state .entry))) (now (bound .entry)) (owners-of (now (state .entry))) (Behind-set (now (codes .entry)) (marks-of (now (state .entry))) m) (from .kind) (from .face) (r .kind) (r .face) ⌝ }
 {
     let mut best = from;
     for k in 0..m {
-        let x = marks[k];
+        let x = state[0][k];
         if x == 2 {
             for i in 0..4 {
                 let d = codes[k * 4 + i] as usize;
-                best = consider(held, bound, owners, flip(d), best);
+                best = consider(&state[2], bound, &state[1], flip(d), best);
             }
         }
     }

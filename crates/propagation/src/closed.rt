@@ -1,7 +1,7 @@
 // Law 5 of a closed list: every two set candidates are apart, by a face of one of them or by the exact test.
 ghost use mathlib.Core.Path.{_≡_};
 ghost use mathlib.Core.Bool.{true, false};
-ghost use Prim.Native.Nat.{_<_};
+ghost use Prim.Native.Nat.{_<_, _≤_};
 ghost use lib.ListN.{length, getD};
 ghost use Rattle.geometry.specs.Space.{points-in};
 ghost use Rattle.laws.specs.Laws.{fours-in};
@@ -23,12 +23,12 @@ pub(crate) fn apart_from_lower(
     rows: &[u16],
     fours: &[u8],
     codes: &[u16],
-    bound: &[u8],
+    bound: &[u16],
     m: usize,
-    marks: &[u8],
+    marks: &[u16],
     k: usize,
 ) -> bool
-    requires { ⌜ Context (job-lists (now points) (now triangles) (now kept) (now table)) (now fours) (now codes) (now bound) m × Rows (points-in (now points)) (now rows) × (length (now marks) ≡ 1820) × (k < m) × (getD (now marks) k 0 ≡ 2) ⌝ }
+    requires { ⌜ Context (job-lists (now points) (now triangles) (now kept) (now table)) (now fours) (now codes) (now bound) m × Rows (points-in (now points)) (now rows) × (m ≤ length (now marks)) × (k < m) × (getD (now marks) k 0 ≡ 2) ⌝ }
     ensures { λ r. ⌜ (r ≡ true → Apart-below (points-in (now (points .entry))) (fours-in m (now (fours .entry))) (now (marks .entry)) k) × (r ≡ false → Not-apart (points-in (now (points .entry))) (fours-in m (now (fours .entry))) (now (marks .entry)) m) ⌝ }
 {
     let g = four_at(fours, m, k);
@@ -54,11 +54,11 @@ pub(crate) fn all_apart(
     rows: &[u16],
     fours: &[u8],
     codes: &[u16],
-    bound: &[u8],
+    bound: &[u16],
     m: usize,
-    marks: &[u8],
+    marks: &[u16],
 ) -> bool
-    requires { ⌜ Context (job-lists (now points) (now triangles) (now kept) (now table)) (now fours) (now codes) (now bound) m × Rows (points-in (now points)) (now rows) × (length (now marks) ≡ 1820) ⌝ }
+    requires { ⌜ Context (job-lists (now points) (now triangles) (now kept) (now table)) (now fours) (now codes) (now bound) m × Rows (points-in (now points)) (now rows) × (m ≤ length (now marks)) ⌝ }
     ensures { λ r. ⌜ (r ≡ true → All-apart (points-in (now (points .entry))) (fours-in m (now (fours .entry))) (now (marks .entry)) m) × (r ≡ false → Not-apart (points-in (now (points .entry))) (fours-in m (now (fours .entry))) (now (marks .entry)) m) ⌝ }
 {
     for k in 0..m {

@@ -38,7 +38,7 @@ fn link_corner(link: &mut [u8; 256], a: usize, f: Four)
 }
 
 // Which points the candidates with mark v or w link.
-pub(crate) fn links_of(fours: &[u8], m: usize, marks: &[u8], v: u8, w: u8) -> Links
+pub(crate) fn links_of(fours: &[u8], m: usize, marks: &[u16], v: u16, w: u16) -> Links
     requires { ⌜ (m ≤ 1820) × All-below 16 (m * 4) (now fours) × (m ≤ length (now marks)) ⌝ }
     ensures { λ r. ⌜ Links-are m (now (fours .entry)) (now (marks .entry)) v w (r .link) ⌝ }
 {

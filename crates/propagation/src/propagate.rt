@@ -1,11 +1,16 @@
 // Propagating a state: prunes, gives up where something can no longer be had, finds a filling, or chooses the next open face.
+ghost use mathlib.Core.Path.{_≡_};
+ghost use lib.ListN.{length};
+ghost use Rattle.geometry.specs.Space.{points-in};
 ghost use Rattle.laws.specs.Laws.{fours-in};
 ghost use Rattle.laws.specs.Lists.{job-lists};
 ghost use Rattle.laws.specs.Check.{job};
-ghost use Rattle.fillings.specs.Steps.{Ready};
+ghost use Rattle.fillings.specs.Steps.{Context, Ready, Propagates};
+ghost use Rattle.fillings.specs.Tables.{Boundary-codes};
+ghost use Rattle.signs.specs.Rows.{Rows};
 ghost use Rattle.trail.specs.Counts.{Counts};
-ghost use Rattle.trail.specs.State.{Living};
-ghost use Rattle.propagation.specs.Prepared.{Prepared};
+ghost use Rattle.trail.specs.State.{marks-of, owners-of, held-of, trail-of, In-order, Held-same};
+ghost use Rattle.propagation.specs.Prepared.{rows-of, boundary-of, bound-of, Prepared};
 ghost use Rattle.propagation.specs.Propagation.{Propagation};
 use crate::choose::choose_behind;
 use crate::choose::choose_on_boundary;
@@ -14,100 +19,108 @@ use crate::cover::all_linked;
 use crate::cover::links_of;
 use pruning::prune::prune_from;
 
-// 0: hopeless; 1: the set candidates are a filling; otherwise an open face to own next. `top` is the length of the trail.
+// 0: hopeless; 1: the set candidates are a filling; otherwise an open face to own next.
+pub(crate) struct Outlook {
+    pub kind: usize,
+    pub face: usize,
+}
+
+// The same, and the length of the trail.
 pub struct Propagated {
     pub kind: usize,
     pub face: usize,
     pub top: usize,
 }
 
-// `watch`: whether to look for points and kept edges that can no longer be covered, which has no say in the answer. `from`: the place of the trail from which on nothing was looked at.
+// What can be said of a state as it is. `watch`: whether to look for points and kept edges that can no longer be covered, which has no say in the answer.
+pub(crate) fn assess(
+    points: &[i32],
+    triangles: &[u8],
+    kept: &[u8],
+    table: &[i32],
+    faces: &[[u16; 4096]; 3],
+    fours: &[u8],
+    codes: &[u16],
+    m: usize,
+    watch: bool,
+    state: &[[u16; 4096]; 4],
+) -> Outlook
+    requires { ⌜ Context (job-lists (now points) (now triangles) (now kept) (now table)) (now fours) (now codes) (bound-of (now faces)) m × Rows (points-in (now points)) (rows-of (now faces)) × Boundary-codes (now triangles) (boundary-of (now faces)) × Ready (job (job-lists (now points) (now triangles) (now kept) (now table))) (fours-in m (now fours)) (marks-of (now state)) × (length (marks-of (now state)) ≡ 4096) × Counts 1 m (now codes) (marks-of (now state)) (owners-of (now state)) × Counts 2 m (now codes) (marks-of (now state)) (held-of (now state)) ⌝ }
+    ensures { λ r. ⌜ Propagates (job (job-lists (now (points .entry)) (now (triangles .entry)) (now (kept .entry)) (now (table .entry)))) (fours-in m (now (fours .entry))) (marks-of (now (state .entry))) (r .kind) (r .face) (marks-of (now (state .entry))) ⌝ }
+{
+    let n = points.len() / 3;
+    if watch {
+        let l = links_of(fours, m, &state[0], 1, 2);
+        let reach = l.link;
+        if !all_linked(kept, n, &reach) {
+            return Outlook { kind: 0, face: 0 };
+        }
+    }
+    let b = choose_on_boundary(&faces[1], triangles.len() / 3, &faces[2], state);
+    let c = choose_behind(codes, m, &faces[2], state, b);
+    let kind = c.kind;
+    if kind != 1 {
+        return Outlook { kind, face: c.face };
+    }
+    let h = links_of(fours, m, &state[0], 2, 2);
+    let covered = h.link;
+    if !all_linked(kept, n, &covered) {
+        return Outlook { kind: 0, face: 0 };
+    }
+    if all_apart(
+        points,
+        triangles,
+        kept,
+        table,
+        &faces[0],
+        fours,
+        codes,
+        &faces[2],
+        m,
+        &state[0],
+    ) {
+        return Outlook { kind: 1, face: 0 };
+    }
+    Outlook { kind: 0, face: 0 }
+}
+
+// `from`: the place of the trail from which on nothing was looked at.
 pub fn propagate(
     points: &[i32],
     triangles: &[u8],
     kept: &[u8],
     table: &[i32],
-    rows: &[u16],
+    faces: &[[u16; 4096]; 3],
     fours: &[u8],
     codes: &[u16],
-    boundary: &[u16],
-    bound: &[u8],
-    m: usize,
     corners: &[u16],
     piercing: &[u16],
-    head: &[u16],
-    next: &[u16],
+    links: &[[u16; 7280]; 2],
+    m: usize,
     watch: bool,
     from: usize,
-    marks: &mut [u8],
-    owners: &mut [u16],
-    held: &[u16],
-    trail: &mut [u16],
+    state: &mut [[u16; 4096]; 4],
     top: usize,
 ) -> Propagated
-    requires { ⌜ Prepared (job-lists (now points) (now triangles) (now kept) (now table)) (now rows) (now fours) (now codes) (now boundary) (now bound) m (now corners) (now piercing) (now head) (now next) × Ready (job (job-lists (now points) (now triangles) (now kept) (now table))) (fours-in m (now fours)) (now marks) × Living m (now codes) (now marks) (now owners) (now trail) top × Counts 2 m (now codes) (now marks) (now held) ⌝ }
-    ensures { λ r. ⌜ Propagation (job-lists (now (points .entry)) (now (triangles .entry)) (now (kept .entry)) (now (table .entry))) m (now (fours .entry)) (now (codes .entry)) (now (marks .entry)) (now (trail .entry)) top (r .kind) (r .face) (now (marks .exit)) (now (owners .exit)) (now (trail .exit)) (r .top) ⌝ }
+    requires { ⌜ Prepared (job-lists (now points) (now triangles) (now kept) (now table)) (now faces) (now fours) (now codes) m (now corners) (now piercing) × Ready (job (job-lists (now points) (now triangles) (now kept) (now table))) (fours-in m (now fours)) (marks-of (now state)) × In-order m (now codes) (now state) top ⌝ }
+    ensures { λ r. ⌜ Propagation (job-lists (now (points .entry)) (now (triangles .entry)) (now (kept .entry)) (now (table .entry))) m (now (fours .entry)) (now (codes .entry)) (marks-of (now (state .entry))) (trail-of (now (state .entry))) top (r .kind) (r .face) (marks-of (now (state .exit))) (owners-of (now (state .exit))) (trail-of (now (state .exit))) (r .top) × Held-same (now (state .entry)) (now (state .exit)) ⌝ }
 {
-    let end = prune_from(
-        codes,
-        bound,
-        m,
-        held,
-        head,
-        next,
-        from,
-        marks,
-        owners,
-        trail,
-        top,
-    );
-    let n = points.len() / 3;
-    if watch {
-        let l = links_of(fours, m, marks, 1, 2);
-        let reach = l.link;
-        if !all_linked(kept, n, &reach) {
-            return Propagated {
-                kind: 0,
-                face: 0,
-                top: end,
-            };
-        }
-    }
-    let b = choose_on_boundary(boundary, triangles.len() / 3, bound, held, owners);
-    let c = choose_behind(codes, m, marks, bound, held, owners, b);
-    let kind = c.kind;
-    if kind != 1 {
-        return Propagated {
-            kind,
-            face: c.face,
-            top: end,
-        };
-    }
-    let h = links_of(fours, m, marks, 2, 2);
-    let covered = h.link;
-    if !all_linked(kept, n, &covered) {
-        return Propagated {
-            kind: 0,
-            face: 0,
-            top: end,
-        };
-    }
-    let apart = all_apart(
+    let end = prune_from(codes, &faces[2], links, m, from, state, top);
+    let z = assess(
         points,
         triangles,
         kept,
         table,
-        rows,
+        faces,
         fours,
         codes,
-        bound,
         m,
-        marks,
+        watch,
+        state,
     );
-    let answer = if apart { 1 } else { 0 };
     Propagated {
-        kind: answer,
-        face: 0,
+        kind: z.kind,
+        face: z.face,
         top: end,
     }
 }

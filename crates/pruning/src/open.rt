@@ -6,10 +6,11 @@ ghost use lib.ListN.{length};
 ghost use Rattle.fillings.specs.Codes.{open-code};
 ghost use Rattle.fillings.specs.Steps.{Stuck};
 ghost use Rattle.fillings.specs.Tables.{All-below};
+ghost use Rattle.trail.specs.State.{held-of, owners-of};
 use trail::codes::flip;
 
 // Whether the face with the code c is open: still to be owned.
-pub fn is_open(held: &[u16], bound: &[u8], c: usize) -> bool
+pub fn is_open(held: &[u16], bound: &[u16], c: usize) -> bool
     requires { ⌜ (c < 4096) × (length (now held) ≡ 4096) × (length (now bound) ≡ 4096) ⌝ }
     ensures { λ r. ⌜ r ≡ open-code (now (held .entry)) (now (bound .entry)) c ⌝ }
 {
@@ -31,16 +32,16 @@ pub fn is_open(held: &[u16], bound: &[u8], c: usize) -> bool
 }
 
 // Whether the candidate k has a face that is not open and whose reverse no alive candidate owns.
-pub(crate) fn is_stuck(codes: &[u16], bound: &[u8], held: &[u16], owners: &[u16], k: usize) -> bool
-    requires { ⌜ (k < 1820) × All-below 4096 (k * 4 + 4) (now codes) × (length (now bound) ≡ 4096) × (length (now held) ≡ 4096) × (length (now owners) ≡ 4096) ⌝ }
-    ensures { λ r. ⌜ (r ≡ true → Stuck (now (codes .entry)) (now (bound .entry)) (now (held .entry)) (now (owners .entry)) k) ⌝ }
+pub(crate) fn is_stuck(codes: &[u16], bound: &[u16], state: &[[u16; 4096]; 4], k: usize) -> bool
+    requires { ⌜ (k < 1820) × All-below 4096 (k * 4 + 4) (now codes) × (length (now bound) ≡ 4096) × (length (held-of (now state)) ≡ 4096) ⌝ }
+    ensures { λ r. ⌜ (r ≡ true → Stuck (now (codes .entry)) (now (bound .entry)) (held-of (now (state .entry))) (owners-of (now (state .entry))) k) ⌝ }
 {
     for i in 0..4 {
         let d = codes[k * 4 + i] as usize;
         let e = flip(d);
-        let x = owners[e];
+        let x = state[1][e];
         if x == 0 {
-            if !is_open(held, bound, d) {
+            if !is_open(&state[2], bound, d) {
                 return true;
             }
         }

@@ -1,12 +1,12 @@
 // Pruning: an alive candidate falls that has a face which is not open and whose reverse no alive candidate owns. What has fallen is looked at in the order of the trail.
 ghost use mathlib.Core.Path.{_≡_};
 ghost use mathlib.Core.Bool.{false};
-ghost use Prim.Native.Nat.{_*_, _<_, _≤_};
+ghost use Prim.Native.Nat.{_<_, _≤_};
 ghost use lib.ListN.{length, getD};
 ghost use Rattle.laws.specs.inner.FaceCodes.{flip-code};
 ghost use Rattle.fillings.specs.Codes.{open-code};
-ghost use Rattle.trail.specs.State.{Coded, Living, Trailed};
-ghost use Rattle.pruning.specs.Pruned.{Pruned};
+ghost use Rattle.trail.specs.State.{marks-of, owners-of, held-of, trail-of, Coded, Living, Held-same, Trailed};
+ghost use Rattle.pruning.specs.Pruned.{Prunable, Pruned-state};
 use crate::open::is_open;
 use crate::open::is_stuck;
 use trail::codes::flip;
@@ -15,35 +15,38 @@ use trail::marks::drop;
 // So many owners of a face are looked at; it has 13 at most.
 const CHAIN: usize = 16;
 
+// A number of a table as an index. A cast of what lies behind a reference to an array would ask that it fits; a parameter does.
+fn wide(x: u16) -> usize
+    ensures { λ r. ⌜ r ≡ x ⌝ }
+{
+    x as usize
+}
+
 // Drops the alive candidates on the chain of the face r, which is not open and whose reverse no alive one owns. What the chain has has no say in the answer.
 pub(crate) fn drop_owners(
     codes: &[u16],
-    bound: &[u8],
+    bound: &[u16],
+    links: &[[u16; 7280]; 2],
     m: usize,
-    held: &[u16],
-    head: &[u16],
-    next: &[u16],
     r: usize,
-    marks: &mut [u8],
-    owners: &mut [u16],
-    trail: &mut [u16],
+    state: &mut [[u16; 4096]; 4],
     top: usize,
 ) -> usize
-    requires { ⌜ Coded m (now codes) × (length (now bound) ≡ 4096) × (length (now held) ≡ 4096) × (length (now head) ≡ 4096) × (length (now next) ≡ 7280) × (r < 4096) × (open-code (now held) (now bound) r ≡ false) × (getD (now owners) (flip-code r) 0 ≡ 0) × Living m (now codes) (now marks) (now owners) (now trail) top ⌝ }
-    ensures { λ e. ⌜ Pruned m (now (codes .entry)) (now (bound .entry)) (now (held .entry)) (now (marks .entry)) (now (trail .entry)) top (now (marks .exit)) (now (owners .exit)) (now (trail .exit)) e ⌝ }
+    requires { ⌜ Prunable m (now codes) (now bound) (now state) top × (r < 4096) × (open-code (held-of (now state)) (now bound) r ≡ false) × (getD (owners-of (now state)) (flip-code r) 0 ≡ 0) ⌝ }
+    ensures { λ e. ⌜ Pruned-state m (now (codes .entry)) (now (bound .entry)) (now (state .entry)) top (now (state .exit)) e ⌝ }
 {
     let mut end = top;
-    let mut j = head[r] as usize;
+    let mut j = wide(links[0][r]);
     for _i in 0..CHAIN {
         if j < m * 4 {
             let c = codes[j] as usize;
             let k = j / 4;
             if c == r {
-                if marks[k] == 1 {
-                    end = drop(codes, m, k, marks, owners, trail, end);
+                if state[0][k] == 1 {
+                    end = drop(codes, m, k, state, end);
                 }
             }
-            j = next[j] as usize;
+            j = wide(links[1][j]);
         }
     }
     end
@@ -52,77 +55,45 @@ pub(crate) fn drop_owners(
 // The face c may have lost its last alive owner: then what owns its reverse falls, unless that is open.
 pub(crate) fn look_behind(
     codes: &[u16],
-    bound: &[u8],
+    bound: &[u16],
+    links: &[[u16; 7280]; 2],
     m: usize,
-    held: &[u16],
-    head: &[u16],
-    next: &[u16],
     c: usize,
-    marks: &mut [u8],
-    owners: &mut [u16],
-    trail: &mut [u16],
+    state: &mut [[u16; 4096]; 4],
     top: usize,
 ) -> usize
-    requires { ⌜ Coded m (now codes) × (length (now bound) ≡ 4096) × (length (now held) ≡ 4096) × (length (now head) ≡ 4096) × (length (now next) ≡ 7280) × (c < 4096) × Living m (now codes) (now marks) (now owners) (now trail) top ⌝ }
-    ensures { λ e. ⌜ Pruned m (now (codes .entry)) (now (bound .entry)) (now (held .entry)) (now (marks .entry)) (now (trail .entry)) top (now (marks .exit)) (now (owners .exit)) (now (trail .exit)) e ⌝ }
+    requires { ⌜ Prunable m (now codes) (now bound) (now state) top × (c < 4096) ⌝ }
+    ensures { λ e. ⌜ Pruned-state m (now (codes .entry)) (now (bound .entry)) (now (state .entry)) top (now (state .exit)) e ⌝ }
 {
-    let x = owners[c];
+    let x = state[1][c];
     if x > 0 {
         return top;
     }
     let r = flip(c);
-    let y = owners[r];
-    if y == 0 || is_open(held, bound, r) {
+    let y = state[1][r];
+    if y == 0 || is_open(&state[2], bound, r) {
         return top;
     }
-    drop_owners(
-        codes,
-        bound,
-        m,
-        held,
-        head,
-        next,
-        r,
-        marks,
-        owners,
-        trail,
-        top,
-    )
+    drop_owners(codes, bound, links, m, r, state, top)
 }
 
 // The same for each face of the candidate k.
 pub(crate) fn look_around(
     codes: &[u16],
-    bound: &[u8],
+    bound: &[u16],
+    links: &[[u16; 7280]; 2],
     m: usize,
-    held: &[u16],
-    head: &[u16],
-    next: &[u16],
     k: usize,
-    marks: &mut [u8],
-    owners: &mut [u16],
-    trail: &mut [u16],
+    state: &mut [[u16; 4096]; 4],
     top: usize,
 ) -> usize
-    requires { ⌜ Coded m (now codes) × (length (now bound) ≡ 4096) × (length (now held) ≡ 4096) × (length (now head) ≡ 4096) × (length (now next) ≡ 7280) × (k < m) × Living m (now codes) (now marks) (now owners) (now trail) top ⌝ }
-    ensures { λ e. ⌜ Pruned m (now (codes .entry)) (now (bound .entry)) (now (held .entry)) (now (marks .entry)) (now (trail .entry)) top (now (marks .exit)) (now (owners .exit)) (now (trail .exit)) e ⌝ }
+    requires { ⌜ Prunable m (now codes) (now bound) (now state) top × (k < m) ⌝ }
+    ensures { λ e. ⌜ Pruned-state m (now (codes .entry)) (now (bound .entry)) (now (state .entry)) top (now (state .exit)) e ⌝ }
 {
     let mut end = top;
     for i in 0..4 {
         let c = codes[k * 4 + i] as usize;
-        end = look_behind(
-            codes,
-            bound,
-            m,
-            held,
-            head,
-            next,
-            c,
-            marks,
-            owners,
-            trail,
-            end,
-        );
+        end = look_behind(codes, bound, links, m, c, state, end);
     }
     end
 }
@@ -130,38 +101,22 @@ pub(crate) fn look_around(
 // Looks behind the faces of what stands on the trail from the place `from` on, what falls meanwhile included.
 pub fn prune_from(
     codes: &[u16],
-    bound: &[u8],
+    bound: &[u16],
+    links: &[[u16; 7280]; 2],
     m: usize,
-    held: &[u16],
-    head: &[u16],
-    next: &[u16],
     from: usize,
-    marks: &mut [u8],
-    owners: &mut [u16],
-    trail: &mut [u16],
+    state: &mut [[u16; 4096]; 4],
     top: usize,
 ) -> usize
-    requires { ⌜ Coded m (now codes) × (length (now bound) ≡ 4096) × (length (now held) ≡ 4096) × (length (now head) ≡ 4096) × (length (now next) ≡ 7280) × Living m (now codes) (now marks) (now owners) (now trail) top ⌝ }
-    ensures { λ e. ⌜ Pruned m (now (codes .entry)) (now (bound .entry)) (now (held .entry)) (now (marks .entry)) (now (trail .entry)) top (now (marks .exit)) (now (owners .exit)) (now (trail .exit)) e ⌝ }
+    requires { ⌜ Prunable m (now codes) (now bound) (now state) top ⌝ }
+    ensures { λ e. ⌜ Pruned-state m (now (codes .entry)) (now (bound .entry)) (now (state .entry)) top (now (state .exit)) e ⌝ }
 {
     let mut end = top;
     let mut at = from;
     while at < end {
-        let k = trail[at] as usize;
+        let k = wide(state[3][at]);
         if k < m {
-            end = look_around(
-                codes,
-                bound,
-                m,
-                held,
-                head,
-                next,
-                k,
-                marks,
-                owners,
-                trail,
-                end,
-            );
+            end = look_around(codes, bound, links, m, k, state, end);
         }
         at += 1;
     }
@@ -171,22 +126,19 @@ pub fn prune_from(
 // Drops every alive candidate that is stuck, once through.
 pub(crate) fn drop_stuck(
     codes: &[u16],
-    bound: &[u8],
+    bound: &[u16],
     m: usize,
-    held: &[u16],
-    marks: &mut [u8],
-    owners: &mut [u16],
-    trail: &mut [u16],
+    state: &mut [[u16; 4096]; 4],
     top: usize,
 ) -> usize
-    requires { ⌜ Coded m (now codes) × (length (now bound) ≡ 4096) × (length (now held) ≡ 4096) × Living m (now codes) (now marks) (now owners) (now trail) top ⌝ }
-    ensures { λ e. ⌜ Pruned m (now (codes .entry)) (now (bound .entry)) (now (held .entry)) (now (marks .entry)) (now (trail .entry)) top (now (marks .exit)) (now (owners .exit)) (now (trail .exit)) e ⌝ }
+    requires { ⌜ Prunable m (now codes) (now bound) (now state) top ⌝ }
+    ensures { λ e. ⌜ Pruned-state m (now (codes .entry)) (now (bound .entry)) (now (state .entry)) top (now (state .exit)) e ⌝ }
 {
     let mut end = top;
     for k in 0..m {
-        if marks[k] == 1 {
-            if is_stuck(codes, bound, held, owners, k) {
-                end = drop(codes, m, k, marks, owners, trail, end);
+        if state[0][k] == 1 {
+            if is_stuck(codes, bound, state, k) {
+                end = drop(codes, m, k, state, end);
             }
         }
     }
@@ -196,33 +148,17 @@ pub(crate) fn drop_stuck(
 // Prunes from a state of which nothing has been looked at.
 pub fn sweep(
     codes: &[u16],
-    bound: &[u8],
+    bound: &[u16],
+    links: &[[u16; 7280]; 2],
     m: usize,
-    held: &[u16],
-    head: &[u16],
-    next: &[u16],
-    marks: &mut [u8],
-    owners: &mut [u16],
-    trail: &mut [u16],
+    state: &mut [[u16; 4096]; 4],
     top: usize,
 ) -> usize
-    requires { ⌜ Coded m (now codes) × (length (now bound) ≡ 4096) × (length (now held) ≡ 4096) × (length (now head) ≡ 4096) × (length (now next) ≡ 7280) × Living m (now codes) (now marks) (now owners) (now trail) top ⌝ }
-    ensures { λ e. ⌜ Pruned m (now (codes .entry)) (now (bound .entry)) (now (held .entry)) (now (marks .entry)) (now (trail .entry)) top (now (marks .exit)) (now (owners .exit)) (now (trail .exit)) e ⌝ }
+    requires { ⌜ Prunable m (now codes) (now bound) (now state) top ⌝ }
+    ensures { λ e. ⌜ Pruned-state m (now (codes .entry)) (now (bound .entry)) (now (state .entry)) top (now (state .exit)) e ⌝ }
 {
-    let end = drop_stuck(codes, bound, m, held, marks, owners, trail, top);
-    prune_from(
-        codes,
-        bound,
-        m,
-        held,
-        head,
-        next,
-        top,
-        marks,
-        owners,
-        trail,
-        end,
-    )
+    let end = drop_stuck(codes, bound, m, state, top);
+    prune_from(codes, bound, links, m, top, state, end)
 }
 
 // Drops the alive candidates below the quality q.
@@ -231,19 +167,17 @@ pub fn drop_below(
     m: usize,
     qualities: &[u32],
     q: u32,
-    marks: &mut [u8],
-    owners: &mut [u16],
-    trail: &mut [u16],
+    state: &mut [[u16; 4096]; 4],
     top: usize,
 ) -> usize
-    requires { ⌜ Coded m (now codes) × (m ≤ length (now qualities)) × Living m (now codes) (now marks) (now owners) (now trail) top ⌝ }
-    ensures { λ e. ⌜ Trailed m (now (codes .entry)) (now (marks .entry)) (now (trail .entry)) top (now (marks .exit)) (now (owners .exit)) (now (trail .exit)) e ⌝ }
+    requires { ⌜ Coded m (now codes) × (m ≤ length (now qualities)) × (length (now state) ≡ 4) × Living m (now codes) (marks-of (now state)) (owners-of (now state)) (trail-of (now state)) top ⌝ }
+    ensures { λ e. ⌜ Trailed m (now (codes .entry)) (marks-of (now (state .entry))) (trail-of (now (state .entry))) top (marks-of (now (state .exit))) (owners-of (now (state .exit))) (trail-of (now (state .exit))) e × Held-same (now (state .entry)) (now (state .exit)) ⌝ }
 {
     let mut end = top;
     for k in 0..m {
-        if marks[k] == 1 {
+        if state[0][k] == 1 {
             if qualities[k] < q {
-                end = drop(codes, m, k, marks, owners, trail, end);
+                end = drop(codes, m, k, state, end);
             }
         }
     }

@@ -10,8 +10,8 @@ ghost use Rattle.fillings.specs.Codes.{Bound-flags};
 ghost use Rattle.fillings.specs.Steps.{Context};
 ghost use Rattle.fillings.specs.Tables.{Boundary-codes, Whole, Attempted, Highest};
 ghost use Rattle.signs.specs.Rows.{Rows};
-ghost use Rattle.propagation.specs.Prepared.{Prepared};
-ghost use Rattle.trail.specs.State.{Sized};
+ghost use Rattle.propagation.specs.Prepared.{rows-of, boundary-of, bound-of, Prepared};
+ghost use Rattle.trail.specs.State.{marks-of, owners-of, held-of, trail-of, Sized-state};
 ghost use Rattle.raising.specs.Tried.{Attempted-at};
 use candidates::pairs::chain;
 use candidates::pairs::corner_sets;
@@ -27,7 +27,7 @@ use thresholds::threshold::worst_of;
 pub struct Attempt {
     pub found: bool,
     pub worst: u32,
-    pub mark: [u8; 1820],
+    pub mark: [u16; 4096],
 }
 
 // Whether a filling of the candidates of quality q at least is found; then the set ones are it.
@@ -36,50 +36,38 @@ pub(crate) fn extend_from(
     triangles: &[u8],
     kept: &[u8],
     table: &[i32],
-    rows: &[u16],
+    faces: &[[u16; 4096]; 3],
     fours: &[u8],
     codes: &[u16],
-    boundary: &[u16],
-    bound: &[u8],
-    m: usize,
     corners: &[u16],
     piercing: &[u16],
-    head: &[u16],
-    next: &[u16],
+    links: &[[u16; 7280]; 2],
+    m: usize,
     watch: bool,
     qualities: &[u32],
     q: u32,
-    marks: &mut [u8],
-    owners: &mut [u16],
-    held: &mut [u16],
-    trail: &mut [u16],
+    state: &mut [[u16; 4096]; 4],
 ) -> bool
-    requires { ⌜ Prepared (job-lists (now points) (now triangles) (now kept) (now table)) (now rows) (now fours) (now codes) (now boundary) (now bound) m (now corners) (now piercing) (now head) (now next) × (m ≤ length (now qualities)) × Sized (now marks) (now owners) (now held) (now trail) ⌝ }
-    ensures { λ r. ⌜ Attempted-at (job (job-lists (now (points .entry)) (now (triangles .entry)) (now (kept .entry)) (now (table .entry)))) (fours-in m (now (fours .entry))) m q (now (qualities .entry)) r (now (marks .exit)) (now (owners .exit)) (now (held .exit)) (now (trail .exit)) ⌝ }
+    requires { ⌜ Prepared (job-lists (now points) (now triangles) (now kept) (now table)) (now faces) (now fours) (now codes) m (now corners) (now piercing) × (m ≤ length (now qualities)) × Sized-state (now state) ⌝ }
+    ensures { λ r. ⌜ Attempted-at (job (job-lists (now (points .entry)) (now (triangles .entry)) (now (kept .entry)) (now (table .entry)))) (fours-in m (now (fours .entry))) m q (now (qualities .entry)) r (marks-of (now (state .exit))) (owners-of (now (state .exit))) (held-of (now (state .exit))) (trail-of (now (state .exit))) × (length (now (state .exit)) ≡ 4) ⌝ }
 {
-    begin(codes, qualities, m, q, marks, owners, held);
-    let top = sweep(codes, bound, m, held, head, next, marks, owners, trail, 0);
+    begin(codes, qualities, m, q, state);
+    let top = sweep(codes, &faces[2], links, m, state, 0);
     let a = face(
         points,
         triangles,
         kept,
         table,
-        rows,
+        faces,
         fours,
         codes,
-        boundary,
-        bound,
-        m,
         corners,
         piercing,
-        head,
-        next,
+        links,
+        m,
         watch,
         top,
-        marks,
-        owners,
-        held,
-        trail,
+        state,
         top,
     );
     a.found
@@ -91,39 +79,24 @@ pub fn reduce(
     triangles: &[u8],
     kept: &[u8],
     table: &[i32],
-    bound: &[u8],
+    bound: &[u16],
     q: u32,
     fours: &[u8],
     codes: &[u16],
     qualities: &[u32],
     m: usize,
-    fours2: &mut [u8],
-    codes2: &mut [u16],
-    qualities2: &mut [u32],
+    fours2: &mut [u8; 7280],
+    codes2: &mut [u16; 7280],
+    qualities2: &mut [u32; 1820],
 ) -> usize
     requires { ⌜ (job-refusal (job-lists (now points) (now triangles) (now kept) (now table)) ≡ 0) × Bound-flags ((job (job-lists (now points) (now triangles) (now kept) (now table))) .triangles) (now bound) × (length (now bound) ≡ 4096) × (0 < q) × (q ≤ 1000000) × Whole (job-lists (now points) (now triangles) (now kept) (now table)) 1 (now fours) (now codes) (now qualities) m × (length (now fours2) ≡ 7280) × (length (now codes2) ≡ 7280) × (length (now qualities2) ≡ 1820) ⌝ }
     ensures { λ r. ⌜ Whole (job-lists (now (points .entry)) (now (triangles .entry)) (now (kept .entry)) (now (table .entry))) q (now (fours2 .exit)) (now (codes2 .exit)) (now (qualities2 .exit)) r ⌝ }
 {
-    let mut head = [0u16; 4096];
-    let mut next = [0u16; 7280];
-    chain(codes, m, &mut head, &mut next);
-    let mut marks = [0u8; 1820];
-    let mut owners = [0u16; 4096];
-    let mut held = [0u16; 4096];
-    let mut trail = [0u16; 1820];
-    begin(codes, qualities, m, q, &mut marks, &mut owners, &mut held);
-    sweep(
-        codes,
-        bound,
-        m,
-        &held,
-        &head,
-        &next,
-        &mut marks,
-        &mut owners,
-        &mut trail,
-        0,
-    );
+    let mut links = [[0u16; 7280]; 2];
+    chain(codes, m, &mut links);
+    let mut state = [[0u16; 4096]; 4];
+    begin(codes, qualities, m, q, &mut state);
+    sweep(codes, bound, &links, m, &mut state, 0);
     compact(
         points,
         triangles,
@@ -133,7 +106,7 @@ pub fn reduce(
         codes,
         qualities,
         m,
-        &marks,
+        &state[0],
         fours2,
         codes2,
         qualities2,
@@ -146,19 +119,16 @@ pub fn prepare(
     triangles: &[u8],
     kept: &[u8],
     table: &[i32],
-    rows: &[u16],
+    faces: &[[u16; 4096]; 3],
     fours: &[u8],
     codes: &[u16],
-    boundary: &[u16],
-    bound: &[u8],
     m: usize,
-    corners: &mut [u16],
-    piercing: &mut [u16],
-    head: &mut [u16],
-    next: &mut [u16],
+    corners: &mut [u16; 1820],
+    piercing: &mut [u16; 29120],
+    links: &mut [[u16; 7280]; 2],
 )
-    requires { ⌜ Context (job-lists (now points) (now triangles) (now kept) (now table)) (now fours) (now codes) (now bound) m × Boundary-codes (now triangles) (now boundary) × Rows (points-in (now points)) (now rows) × (length (now corners) ≡ 1820) × (length (now piercing) ≡ 29120) × (length (now head) ≡ 4096) × (length (now next) ≡ 7280) ⌝ }
-    ensures { λ _. ⌜ Prepared (job-lists (now (points .entry)) (now (triangles .entry)) (now (kept .entry)) (now (table .entry))) (now (rows .entry)) (now (fours .entry)) (now (codes .entry)) (now (boundary .entry)) (now (bound .entry)) m (now (corners .exit)) (now (piercing .exit)) (now (head .exit)) (now (next .exit)) ⌝ }
+    requires { ⌜ Context (job-lists (now points) (now triangles) (now kept) (now table)) (now fours) (now codes) (bound-of (now faces)) m × Boundary-codes (now triangles) (boundary-of (now faces)) × Rows (points-in (now points)) (rows-of (now faces)) × (length (now corners) ≡ 1820) × (length (now piercing) ≡ 29120) ⌝ }
+    ensures { λ _. ⌜ Prepared (job-lists (now (points .entry)) (now (triangles .entry)) (now (kept .entry)) (now (table .entry))) (now (faces .entry)) (now (fours .entry)) (now (codes .entry)) m (now (corners .exit)) (now (piercing .exit)) ⌝ }
 {
     corner_sets(fours, m, corners);
     piercing_sets(
@@ -166,14 +136,14 @@ pub fn prepare(
         triangles,
         kept,
         table,
-        rows,
+        &faces[0],
         fours,
         codes,
-        bound,
+        &faces[2],
         m,
         piercing,
     );
-    chain(codes, m, head, next);
+    chain(codes, m, links);
 }
 
 // A filling of the worst quality q at least, from a pool that has every candidate of that quality, with its own worst quality.
@@ -182,51 +152,39 @@ pub fn try_threshold(
     triangles: &[u8],
     kept: &[u8],
     table: &[i32],
-    rows: &[u16],
+    faces: &[[u16; 4096]; 3],
     fours: &[u8],
     codes: &[u16],
-    boundary: &[u16],
-    bound: &[u8],
-    m: usize,
     corners: &[u16],
     piercing: &[u16],
-    head: &[u16],
-    next: &[u16],
+    links: &[[u16; 7280]; 2],
+    m: usize,
     watch: bool,
     qualities: &[u32],
     q: u32,
-    owners: &mut [u16],
-    held: &mut [u16],
-    trail: &mut [u16],
+    state: &mut [[u16; 4096]; 4],
 ) -> Attempt
-    requires { ⌜ Prepared (job-lists (now points) (now triangles) (now kept) (now table)) (now rows) (now fours) (now codes) (now boundary) (now bound) m (now corners) (now piercing) (now head) (now next) × (0 < q) × (q ≤ 1000000) × Whole (job-lists (now points) (now triangles) (now kept) (now table)) q (now fours) (now codes) (now qualities) m × (length (now owners) ≡ 4096) × (length (now held) ≡ 4096) × (length (now trail) ≡ 1820) ⌝ }
-    ensures { λ r. ⌜ Attempted (job-lists (now (points .entry)) (now (triangles .entry)) (now (kept .entry)) (now (table .entry))) q (r .found) (now (fours .entry)) (now (codes .entry)) (now (qualities .entry)) m (r .worst) (r .mark) × (length (now (owners .exit)) ≡ 4096) × (length (now (held .exit)) ≡ 4096) × (length (now (trail .exit)) ≡ 1820) ⌝ }
+    requires { ⌜ Prepared (job-lists (now points) (now triangles) (now kept) (now table)) (now faces) (now fours) (now codes) m (now corners) (now piercing) × (0 < q) × (q ≤ 1000000) × Whole (job-lists (now points) (now triangles) (now kept) (now table)) q (now fours) (now codes) (now qualities) m × Sized-state (now state) ⌝ }
+    ensures { λ r. ⌜ Attempted (job-lists (now (points .entry)) (now (triangles .entry)) (now (kept .entry)) (now (table .entry))) q (r .found) (now (fours .entry)) (now (codes .entry)) (now (qualities .entry)) m (r .worst) (r .mark) × Sized-state (now (state .exit)) ⌝ }
 {
-    let mut marks = [0u8; 1820];
     let found = extend_from(
         points,
         triangles,
         kept,
         table,
-        rows,
+        faces,
         fours,
         codes,
-        boundary,
-        bound,
-        m,
         corners,
         piercing,
-        head,
-        next,
+        links,
+        m,
         watch,
         qualities,
         q,
-        &mut marks,
-        owners,
-        held,
-        trail,
+        state,
     );
-    let mark = marks;
+    let mark = state[0];
     if !found {
         return Attempt {
             found: false,
@@ -248,26 +206,21 @@ pub fn raise(
     triangles: &[u8],
     kept: &[u8],
     table: &[i32],
-    rows: &[u16],
+    faces: &[[u16; 4096]; 3],
     fours: &[u8],
     codes: &[u16],
-    boundary: &[u16],
-    bound: &[u8],
-    m: usize,
     corners: &[u16],
     piercing: &[u16],
-    head: &[u16],
-    next: &[u16],
+    links: &[[u16; 7280]; 2],
+    m: usize,
     watch: bool,
     qualities: &[u32],
     from: Attempt,
     top: u32,
-    owners: &mut [u16],
-    held: &mut [u16],
-    trail: &mut [u16],
+    state: &mut [[u16; 4096]; 4],
 ) -> Attempt
-    requires { ⌜ Prepared (job-lists (now points) (now triangles) (now kept) (now table)) (now rows) (now fours) (now codes) (now boundary) (now bound) m (now corners) (now piercing) (now head) (now next) × Highest (job-lists (now points) (now triangles) (now kept) (now table)) (now fours) (now codes) (now qualities) m (from .worst) top (from .mark) × (length (now owners) ≡ 4096) × (length (now held) ≡ 4096) × (length (now trail) ≡ 1820) ⌝ }
-    ensures { λ r. ⌜ Highest (job-lists (now (points .entry)) (now (triangles .entry)) (now (kept .entry)) (now (table .entry))) (now (fours .entry)) (now (codes .entry)) (now (qualities .entry)) m (r .worst) (suc (r .worst)) (r .mark) × (length (now (owners .exit)) ≡ 4096) × (length (now (held .exit)) ≡ 4096) × (length (now (trail .exit)) ≡ 1820) ⌝ }
+    requires { ⌜ Prepared (job-lists (now points) (now triangles) (now kept) (now table)) (now faces) (now fours) (now codes) m (now corners) (now piercing) × Highest (job-lists (now points) (now triangles) (now kept) (now table)) (now fours) (now codes) (now qualities) m (from .worst) top (from .mark) × Sized-state (now state) ⌝ }
+    ensures { λ r. ⌜ Highest (job-lists (now (points .entry)) (now (triangles .entry)) (now (kept .entry)) (now (table .entry))) (now (fours .entry)) (now (codes .entry)) (now (qualities .entry)) m (r .worst) (suc (r .worst)) (r .mark) × Sized-state (now (state .exit)) ⌝ }
 {
     let mut w = from;
     let mut high = top;
@@ -282,22 +235,17 @@ pub fn raise(
             triangles,
             kept,
             table,
-            rows,
+            faces,
             fours,
             codes,
-            boundary,
-            bound,
-            m,
             corners,
             piercing,
-            head,
-            next,
+            links,
+            m,
             watch,
             qualities,
             q,
-            owners,
-            held,
-            trail,
+            state,
         );
         if a.found {
             w = a;

@@ -11,7 +11,8 @@ ghost use Rattle.fillings.specs.Codes.{Bound-flags};
 ghost use Rattle.fillings.specs.Tables.{Boundary-codes, Whole, Highest};
 ghost use Rattle.signs.specs.Rows.{Rows};
 ghost use Rattle.search.specs.Entry.{in-front, Searched, Search-says};
-ghost use Rattle.propagation.specs.Prepared.{Prepared};
+ghost use Rattle.propagation.specs.Prepared.{rows-of, boundary-of, bound-of, Prepared};
+ghost use Rattle.trail.specs.State.{Sized-state};
 ghost use Rattle.search.specs.inner.Threshold.{Under, Searched-from};
 use candidates::boundary::boundary_codes;
 use candidates::boundary::named;
@@ -36,7 +37,7 @@ pub struct Found {
 }
 
 // Writes the set candidates' bytes in order; how many there are.
-pub(crate) fn write_filling(fours: &[u8], m: usize, mark: [u8; 1820], answer: &mut [u8]) -> usize
+pub(crate) fn write_filling(fours: &[u8], m: usize, mark: [u16; 4096], answer: &mut [u8]) -> usize
     requires { ⌜ (m ≤ 1820) × (m * 4 ≤ length (now fours)) × (7280 ≤ length (now answer)) ⌝ }
     ensures { λ r. ⌜ (r ≡ length (marked 2 (fours-in m (now (fours .entry))) mark)) × (now (answer .exit) ≡ in-front (bytes (marked 2 (fours-in m (now (fours .entry))) mark)) (now (answer .entry))) ⌝ }
 {
@@ -64,26 +65,21 @@ pub(crate) fn finish(
     triangles: &[u8],
     kept: &[u8],
     table: &[i32],
-    rows: &[u16],
+    faces: &[[u16; 4096]; 3],
     fours: &[u8],
     codes: &[u16],
-    boundary: &[u16],
-    bound: &[u8],
-    m: usize,
     corners: &[u16],
     piercing: &[u16],
-    head: &[u16],
-    next: &[u16],
+    links: &[[u16; 7280]; 2],
+    m: usize,
     watch: bool,
     qualities: &[u32],
     from: Attempt,
     top: u32,
-    owners: &mut [u16],
-    held: &mut [u16],
-    trail: &mut [u16],
+    state: &mut [[u16; 4096]; 4],
     answer: &mut [u8],
 ) -> Found
-    requires { ⌜ Prepared (job-lists (now points) (now triangles) (now kept) (now table)) (now rows) (now fours) (now codes) (now boundary) (now bound) m (now corners) (now piercing) (now head) (now next) × Highest (job-lists (now points) (now triangles) (now kept) (now table)) (now fours) (now codes) (now qualities) m (from .worst) top (from .mark) × (length (now owners) ≡ 4096) × (length (now held) ≡ 4096) × (length (now trail) ≡ 1820) × (7280 ≤ length (now answer)) ⌝ }
+    requires { ⌜ Prepared (job-lists (now points) (now triangles) (now kept) (now table)) (now faces) (now fours) (now codes) m (now corners) (now piercing) × Highest (job-lists (now points) (now triangles) (now kept) (now table)) (now fours) (now codes) (now qualities) m (from .worst) top (from .mark) × Sized-state (now state) × (7280 ≤ length (now answer)) ⌝ }
     ensures { λ r. ⌜ Searched (job (job-lists (now (points .entry)) (now (triangles .entry)) (now (kept .entry)) (now (table .entry)))) r (now (answer .entry)) (now (answer .exit)) ⌝ }
 {
     let w = raise(
@@ -91,45 +87,35 @@ pub(crate) fn finish(
         triangles,
         kept,
         table,
-        rows,
+        faces,
         fours,
         codes,
-        boundary,
-        bound,
-        m,
         corners,
         piercing,
-        head,
-        next,
+        links,
+        m,
         watch,
         qualities,
         from,
         top,
-        owners,
-        held,
-        trail,
+        state,
     );
     let f = first_list(
         points,
         triangles,
         kept,
         table,
-        rows,
+        faces,
         fours,
         codes,
-        boundary,
-        bound,
-        m,
         corners,
         piercing,
-        head,
-        next,
+        links,
+        m,
         watch,
         qualities,
         w,
-        owners,
-        held,
-        trail,
+        state,
     );
     let mark = f.mark;
     let count = write_filling(fours, m, mark, answer);
@@ -146,49 +132,39 @@ pub(crate) fn search_prepared(
     triangles: &[u8],
     kept: &[u8],
     table: &[i32],
-    rows: &[u16],
+    faces: &[[u16; 4096]; 3],
     fours: &[u8],
     codes: &[u16],
-    boundary: &[u16],
-    bound: &[u8],
+    corners: &[u16; 1820],
+    piercing: &[u16; 29120],
+    links: &[[u16; 7280]; 2],
     m: usize,
-    corners: &[u16],
-    piercing: &[u16],
-    head: &[u16],
-    next: &[u16],
     watch: bool,
     qualities: &[u32],
     low: u32,
     top: u32,
     answer: &mut [u8],
 ) -> Found
-    requires { ⌜ Prepared (job-lists (now points) (now triangles) (now kept) (now table)) (now rows) (now fours) (now codes) (now boundary) (now bound) m (now corners) (now piercing) (now head) (now next) × Whole (job-lists (now points) (now triangles) (now kept) (now table)) low (now fours) (now codes) (now qualities) m × (0 < low) × (low ≤ 1000000) × (top ≤ 1000001) × Under (job (job-lists (now points) (now triangles) (now kept) (now table))) top × (7280 ≤ length (now answer)) ⌝ }
+    requires { ⌜ Prepared (job-lists (now points) (now triangles) (now kept) (now table)) (now faces) (now fours) (now codes) m (now corners) (now piercing) × Whole (job-lists (now points) (now triangles) (now kept) (now table)) low (now fours) (now codes) (now qualities) m × (0 < low) × (low ≤ 1000000) × (top ≤ 1000001) × Under (job (job-lists (now points) (now triangles) (now kept) (now table))) top × (7280 ≤ length (now answer)) ⌝ }
     ensures { λ r. ⌜ Searched-from (job (job-lists (now (points .entry)) (now (triangles .entry)) (now (kept .entry)) (now (table .entry)))) low r (now (answer .entry)) (now (answer .exit)) ⌝ }
 {
-    let mut owners = [0u16; 4096];
-    let mut held = [0u16; 4096];
-    let mut trail = [0u16; 1820];
+    let mut state = [[0u16; 4096]; 4];
     let a = try_threshold(
         points,
         triangles,
         kept,
         table,
-        rows,
+        faces,
         fours,
         codes,
-        boundary,
-        bound,
-        m,
         corners,
         piercing,
-        head,
-        next,
+        links,
+        m,
         watch,
         qualities,
         low,
-        &mut owners,
-        &mut held,
-        &mut trail,
+        &mut state,
     );
     if !a.found {
         return Found {
@@ -202,23 +178,18 @@ pub(crate) fn search_prepared(
         triangles,
         kept,
         table,
-        rows,
+        faces,
         fours,
         codes,
-        boundary,
-        bound,
-        m,
         corners,
         piercing,
-        head,
-        next,
+        links,
+        m,
         watch,
         qualities,
         a,
         top,
-        &mut owners,
-        &mut held,
-        &mut trail,
+        &mut state,
         answer,
     )
 }
@@ -229,56 +200,47 @@ pub(crate) fn search_pool(
     triangles: &[u8],
     kept: &[u8],
     table: &[i32],
-    rows: &[u16],
-    boundary: &[u16],
-    bound: &[u8],
-    fours: &[u8],
-    codes: &[u16],
-    qualities: &[u32],
+    faces: &[[u16; 4096]; 3],
+    fours: &[u8; 7280],
+    codes: &[u16; 7280],
+    qualities: &[u32; 1820],
     m: usize,
     watch: bool,
     low: u32,
     top: u32,
     answer: &mut [u8],
 ) -> Found
-    requires { ⌜ (job-refusal (job-lists (now points) (now triangles) (now kept) (now table)) ≡ 0) × Boundary-codes (now triangles) (now boundary) × Bound-flags ((job (job-lists (now points) (now triangles) (now kept) (now table))) .triangles) (now bound) × (length (now bound) ≡ 4096) × Rows (points-in (now points)) (now rows) × Whole (job-lists (now points) (now triangles) (now kept) (now table)) low (now fours) (now codes) (now qualities) m × (0 < low) × (low ≤ 1000000) × (top ≤ 1000001) × Under (job (job-lists (now points) (now triangles) (now kept) (now table))) top × (7280 ≤ length (now answer)) ⌝ }
+    requires { ⌜ (job-refusal (job-lists (now points) (now triangles) (now kept) (now table)) ≡ 0) × Boundary-codes (now triangles) (boundary-of (now faces)) × Bound-flags ((job (job-lists (now points) (now triangles) (now kept) (now table))) .triangles) (bound-of (now faces)) × (length (bound-of (now faces)) ≡ 4096) × Rows (points-in (now points)) (rows-of (now faces)) × Whole (job-lists (now points) (now triangles) (now kept) (now table)) low (now fours) (now codes) (now qualities) m × (0 < low) × (low ≤ 1000000) × (top ≤ 1000001) × Under (job (job-lists (now points) (now triangles) (now kept) (now table))) top × (7280 ≤ length (now answer)) ⌝ }
     ensures { λ r. ⌜ Searched-from (job (job-lists (now (points .entry)) (now (triangles .entry)) (now (kept .entry)) (now (table .entry)))) low r (now (answer .entry)) (now (answer .exit)) ⌝ }
 {
     let mut corners = [0u16; 1820];
     let mut piercing = [0u16; 29120];
-    let mut head = [0u16; 4096];
-    let mut next = [0u16; 7280];
+    let mut links = [[0u16; 7280]; 2];
     prepare(
         points,
         triangles,
         kept,
         table,
-        rows,
+        faces,
         fours,
         codes,
-        boundary,
-        bound,
         m,
         &mut corners,
         &mut piercing,
-        &mut head,
-        &mut next,
+        &mut links,
     );
     search_prepared(
         points,
         triangles,
         kept,
         table,
-        rows,
+        faces,
         fours,
         codes,
-        boundary,
-        bound,
-        m,
         &corners,
         &piercing,
-        &head,
-        &next,
+        &links,
+        m,
         watch,
         qualities,
         low,
@@ -293,19 +255,17 @@ pub(crate) fn search_from(
     triangles: &[u8],
     kept: &[u8],
     table: &[i32],
-    rows: &[u16],
-    boundary: &[u16],
-    bound: &[u8],
-    fours: &[u8],
-    codes: &[u16],
-    qualities: &[u32],
+    faces: &[[u16; 4096]; 3],
+    fours: &[u8; 7280],
+    codes: &[u16; 7280],
+    qualities: &[u32; 1820],
     m: usize,
     watch: bool,
     low: u32,
     top: u32,
     answer: &mut [u8],
 ) -> Found
-    requires { ⌜ (job-refusal (job-lists (now points) (now triangles) (now kept) (now table)) ≡ 0) × Boundary-codes (now triangles) (now boundary) × Bound-flags ((job (job-lists (now points) (now triangles) (now kept) (now table))) .triangles) (now bound) × (length (now bound) ≡ 4096) × Rows (points-in (now points)) (now rows) × Whole (job-lists (now points) (now triangles) (now kept) (now table)) 1 (now fours) (now codes) (now qualities) m × (0 < low) × (low ≤ 1000000) × (top ≤ 1000001) × Under (job (job-lists (now points) (now triangles) (now kept) (now table))) top × (7280 ≤ length (now answer)) ⌝ }
+    requires { ⌜ (job-refusal (job-lists (now points) (now triangles) (now kept) (now table)) ≡ 0) × Boundary-codes (now triangles) (boundary-of (now faces)) × Bound-flags ((job (job-lists (now points) (now triangles) (now kept) (now table))) .triangles) (bound-of (now faces)) × (length (bound-of (now faces)) ≡ 4096) × Rows (points-in (now points)) (rows-of (now faces)) × Whole (job-lists (now points) (now triangles) (now kept) (now table)) 1 (now fours) (now codes) (now qualities) m × (0 < low) × (low ≤ 1000000) × (top ≤ 1000001) × Under (job (job-lists (now points) (now triangles) (now kept) (now table))) top × (7280 ≤ length (now answer)) ⌝ }
     ensures { λ r. ⌜ Searched-from (job (job-lists (now (points .entry)) (now (triangles .entry)) (now (kept .entry)) (now (table .entry)))) low r (now (answer .entry)) (now (answer .exit)) ⌝ }
 {
     let mut fours2 = [0u8; 7280];
@@ -316,7 +276,7 @@ pub(crate) fn search_from(
         triangles,
         kept,
         table,
-        bound,
+        &faces[2],
         low,
         fours,
         codes,
@@ -331,9 +291,7 @@ pub(crate) fn search_from(
         triangles,
         kept,
         table,
-        rows,
-        boundary,
-        bound,
+        faces,
         &fours2,
         &codes2,
         &qualities2,
@@ -351,28 +309,31 @@ pub(crate) fn search_candidates(
     triangles: &[u8],
     kept: &[u8],
     table: &[i32],
-    rows: &[u16],
-    boundary: &[u16],
-    bound: &[u8],
-    fours: &[u8],
-    codes: &[u16],
-    qualities: &[u32],
+    faces: &[[u16; 4096]; 3],
+    fours: &[u8; 7280],
+    codes: &[u16; 7280],
+    qualities: &[u32; 1820],
     m: usize,
     answer: &mut [u8],
 ) -> Found
-    requires { ⌜ (job-refusal (job-lists (now points) (now triangles) (now kept) (now table)) ≡ 0) × Boundary-codes (now triangles) (now boundary) × Bound-flags ((job (job-lists (now points) (now triangles) (now kept) (now table))) .triangles) (now bound) × (length (now bound) ≡ 4096) × Rows (points-in (now points)) (now rows) × Whole (job-lists (now points) (now triangles) (now kept) (now table)) 1 (now fours) (now codes) (now qualities) m × (7280 ≤ length (now answer)) ⌝ }
+    requires { ⌜ (job-refusal (job-lists (now points) (now triangles) (now kept) (now table)) ≡ 0) × Boundary-codes (now triangles) (boundary-of (now faces)) × Bound-flags ((job (job-lists (now points) (now triangles) (now kept) (now table))) .triangles) (bound-of (now faces)) × (length (bound-of (now faces)) ≡ 4096) × Rows (points-in (now points)) (rows-of (now faces)) × Whole (job-lists (now points) (now triangles) (now kept) (now table)) 1 (now fours) (now codes) (now qualities) m × (7280 ≤ length (now answer)) ⌝ }
     ensures { λ r. ⌜ Searched (job (job-lists (now (points .entry)) (now (triangles .entry)) (now (kept .entry)) (now (table .entry)))) r (now (answer .entry)) (now (answer .exit)) ⌝ }
 {
     let watch = anything_loose(points.len() / 3, triangles, kept);
-    let low = opening(codes, qualities, m, boundary, triangles.len() / 3, bound);
+    let low = opening(
+        codes,
+        qualities,
+        m,
+        &faces[1],
+        triangles.len() / 3,
+        &faces[2],
+    );
     let r = search_from(
         points,
         triangles,
         kept,
         table,
-        rows,
-        boundary,
-        bound,
+        faces,
         fours,
         codes,
         qualities,
@@ -393,9 +354,7 @@ pub(crate) fn search_candidates(
         triangles,
         kept,
         table,
-        rows,
-        boundary,
-        bound,
+        faces,
         fours,
         codes,
         qualities,
@@ -424,6 +383,7 @@ pub(crate) fn search_accepted(
     let boundary = b.code;
     let f = named(&boundary, triangles.len() / 3);
     let bound = f.flag;
+    let faces = [rows, boundary, bound];
     let mut fours = [0u8; 7280];
     let mut codes = [0u16; 7280];
     let mut qualities = [0u32; 1820];
@@ -444,9 +404,7 @@ pub(crate) fn search_accepted(
         triangles,
         kept,
         table,
-        &rows,
-        &boundary,
-        &bound,
+        &faces,
         &fours,
         &codes,
         &qualities,

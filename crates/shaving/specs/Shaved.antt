@@ -28,7 +28,7 @@ pub record As-it-was (m : ℕ) (ms owners held tr : List ℕ) (top : ℕ) (ns ow
   pub alive : owners-now ≡ owners
   pub set : held-now ≡ held
   pub below : Same-below top tr ur
-  pub trail-long : length ur ≡ 1820
+  pub trail-long : length ur ≡ 4096
 
 -- whether setting the candidate k was seen to be hopeless; the state is as it was
 pub record Refuted (j : Job) (cs : List Four) (m k : ℕ) (ms owners held tr : List ℕ) (top : ℕ) (refuted : Bool) (ns owners-now held-now ur : List ℕ) : Type 0 where

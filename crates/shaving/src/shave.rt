@@ -6,8 +6,8 @@ ghost use Rattle.laws.specs.Laws.{fours-in};
 ghost use Rattle.laws.specs.Lists.{job-lists};
 ghost use Rattle.laws.specs.Check.{job};
 ghost use Rattle.fillings.specs.Steps.{Ready};
-ghost use Rattle.trail.specs.Counts.{Counts};
-ghost use Rattle.trail.specs.State.{Coded, Living};
+ghost use Rattle.trail.specs.State.{marks-of, owners-of, held-of, trail-of, In-order, Held-same};
+ghost use Rattle.pruning.specs.Pruned.{Prunable};
 ghost use Rattle.propagation.specs.Prepared.{Prepared};
 ghost use Rattle.shaving.specs.Shaved.{Discarded, Refuted, Shaved};
 use placing::place::place;
@@ -20,34 +20,18 @@ use trail::marks::unset;
 // Drops the alive candidate k, and what falls with it.
 pub fn discard(
     codes: &[u16],
-    bound: &[u8],
+    bound: &[u16],
+    links: &[[u16; 7280]; 2],
     m: usize,
-    held: &[u16],
-    head: &[u16],
-    next: &[u16],
     k: usize,
-    marks: &mut [u8],
-    owners: &mut [u16],
-    trail: &mut [u16],
+    state: &mut [[u16; 4096]; 4],
     top: usize,
 ) -> usize
-    requires { ⌜ Coded m (now codes) × (length (now bound) ≡ 4096) × (length (now held) ≡ 4096) × (length (now head) ≡ 4096) × (length (now next) ≡ 7280) × (k < m) × (getD (now marks) k 0 ≡ 1) × Living m (now codes) (now marks) (now owners) (now trail) top ⌝ }
-    ensures { λ e. ⌜ Discarded m (now (codes .entry)) (now (bound .entry)) (now (held .entry)) (now (marks .entry)) (now (trail .entry)) top k (now (marks .exit)) (now (owners .exit)) (now (trail .exit)) e ⌝ }
+    requires { ⌜ Prunable m (now codes) (now bound) (now state) top × (k < m) × (getD (marks-of (now state)) k 0 ≡ 1) ⌝ }
+    ensures { λ e. ⌜ Discarded m (now (codes .entry)) (now (bound .entry)) (held-of (now (state .entry))) (marks-of (now (state .entry))) (trail-of (now (state .entry))) top k (marks-of (now (state .exit))) (owners-of (now (state .exit))) (trail-of (now (state .exit))) e × Held-same (now (state .entry)) (now (state .exit)) ⌝ }
 {
-    let end = drop(codes, m, k, marks, owners, trail, top);
-    prune_from(
-        codes,
-        bound,
-        m,
-        held,
-        head,
-        next,
-        top,
-        marks,
-        owners,
-        trail,
-        end,
-    )
+    let end = drop(codes, m, k, state, top);
+    prune_from(codes, bound, links, m, top, state, end)
 }
 
 // Whether setting the alive candidate k is seen to be hopeless. The state is as it was.
@@ -56,66 +40,42 @@ pub(crate) fn is_refuted(
     triangles: &[u8],
     kept: &[u8],
     table: &[i32],
-    rows: &[u16],
+    faces: &[[u16; 4096]; 3],
     fours: &[u8],
     codes: &[u16],
-    boundary: &[u16],
-    bound: &[u8],
-    m: usize,
     corners: &[u16],
     piercing: &[u16],
-    head: &[u16],
-    next: &[u16],
+    links: &[[u16; 7280]; 2],
+    m: usize,
     watch: bool,
     k: usize,
-    marks: &mut [u8],
-    owners: &mut [u16],
-    held: &mut [u16],
-    trail: &mut [u16],
+    state: &mut [[u16; 4096]; 4],
     top: usize,
 ) -> bool
-    requires { ⌜ Prepared (job-lists (now points) (now triangles) (now kept) (now table)) (now rows) (now fours) (now codes) (now boundary) (now bound) m (now corners) (now piercing) (now head) (now next) × Ready (job (job-lists (now points) (now triangles) (now kept) (now table))) (fours-in m (now fours)) (now marks) × Living m (now codes) (now marks) (now owners) (now trail) top × Counts 2 m (now codes) (now marks) (now held) × (k < m) × (getD (now marks) k 0 ≡ 1) ⌝ }
-    ensures { λ r. ⌜ Refuted (job (job-lists (now (points .entry)) (now (triangles .entry)) (now (kept .entry)) (now (table .entry)))) (fours-in m (now (fours .entry))) m k (now (marks .entry)) (now (owners .entry)) (now (held .entry)) (now (trail .entry)) top r (now (marks .exit)) (now (owners .exit)) (now (held .exit)) (now (trail .exit)) ⌝ }
+    requires { ⌜ Prepared (job-lists (now points) (now triangles) (now kept) (now table)) (now faces) (now fours) (now codes) m (now corners) (now piercing) × Ready (job (job-lists (now points) (now triangles) (now kept) (now table))) (fours-in m (now fours)) (marks-of (now state)) × In-order m (now codes) (now state) top × (k < m) × (getD (marks-of (now state)) k 0 ≡ 1) ⌝ }
+    ensures { λ r. ⌜ Refuted (job (job-lists (now (points .entry)) (now (triangles .entry)) (now (kept .entry)) (now (table .entry)))) (fours-in m (now (fours .entry))) m k (marks-of (now (state .entry))) (owners-of (now (state .entry))) (held-of (now (state .entry))) (trail-of (now (state .entry))) top r (marks-of (now (state .exit))) (owners-of (now (state .exit))) (held-of (now (state .exit))) (trail-of (now (state .exit))) × (length (now (state .exit)) ≡ 4) ⌝ }
 {
-    let end = place(
-        codes,
-        m,
-        fours,
-        corners,
-        piercing,
-        k,
-        marks,
-        owners,
-        held,
-        trail,
-        top,
-    );
+    let end = place(codes, m, fours, corners, piercing, k, state, top);
     let z = propagate(
         points,
         triangles,
         kept,
         table,
-        rows,
+        faces,
         fours,
         codes,
-        boundary,
-        bound,
-        m,
         corners,
         piercing,
-        head,
-        next,
+        links,
+        m,
         watch,
         top,
-        marks,
-        owners,
-        held,
-        trail,
+        state,
         end,
     );
     let kind = z.kind;
-    undo(codes, m, trail, top, z.top, marks, owners);
-    unset(codes, m, k, marks, owners, held);
+    undo(codes, m, top, z.top, state);
+    unset(codes, m, k, state);
     kind == 0
 }
 
@@ -125,65 +85,41 @@ pub fn shave(
     triangles: &[u8],
     kept: &[u8],
     table: &[i32],
-    rows: &[u16],
+    faces: &[[u16; 4096]; 3],
     fours: &[u8],
     codes: &[u16],
-    boundary: &[u16],
-    bound: &[u8],
-    m: usize,
     corners: &[u16],
     piercing: &[u16],
-    head: &[u16],
-    next: &[u16],
+    links: &[[u16; 7280]; 2],
+    m: usize,
     watch: bool,
-    marks: &mut [u8],
-    owners: &mut [u16],
-    held: &mut [u16],
-    trail: &mut [u16],
+    state: &mut [[u16; 4096]; 4],
     top: usize,
 ) -> usize
-    requires { ⌜ Prepared (job-lists (now points) (now triangles) (now kept) (now table)) (now rows) (now fours) (now codes) (now boundary) (now bound) m (now corners) (now piercing) (now head) (now next) × Ready (job (job-lists (now points) (now triangles) (now kept) (now table))) (fours-in m (now fours)) (now marks) × Living m (now codes) (now marks) (now owners) (now trail) top × Counts 2 m (now codes) (now marks) (now held) ⌝ }
-    ensures { λ e. ⌜ Shaved (job (job-lists (now (points .entry)) (now (triangles .entry)) (now (kept .entry)) (now (table .entry)))) (fours-in m (now (fours .entry))) m (now (codes .entry)) (now (marks .entry)) (now (held .entry)) (now (trail .entry)) top (now (marks .exit)) (now (owners .exit)) (now (held .exit)) (now (trail .exit)) e ⌝ }
+    requires { ⌜ Prepared (job-lists (now points) (now triangles) (now kept) (now table)) (now faces) (now fours) (now codes) m (now corners) (now piercing) × Ready (job (job-lists (now points) (now triangles) (now kept) (now table))) (fours-in m (now fours)) (marks-of (now state)) × In-order m (now codes) (now state) top ⌝ }
+    ensures { λ e. ⌜ Shaved (job (job-lists (now (points .entry)) (now (triangles .entry)) (now (kept .entry)) (now (table .entry)))) (fours-in m (now (fours .entry))) m (now (codes .entry)) (marks-of (now (state .entry))) (held-of (now (state .entry))) (trail-of (now (state .entry))) top (marks-of (now (state .exit))) (owners-of (now (state .exit))) (held-of (now (state .exit))) (trail-of (now (state .exit))) e × (length (now (state .exit)) ≡ 4) ⌝ }
 {
     let mut end = top;
     for k in 0..m {
-        if marks[k] == 1 {
+        if state[0][k] == 1 {
             if is_refuted(
                 points,
                 triangles,
                 kept,
                 table,
-                rows,
+                faces,
                 fours,
                 codes,
-                boundary,
-                bound,
-                m,
                 corners,
                 piercing,
-                head,
-                next,
+                links,
+                m,
                 watch,
                 k,
-                marks,
-                owners,
-                held,
-                trail,
+                state,
                 end,
             ) {
-                end = discard(
-                    codes,
-                    bound,
-                    m,
-                    held,
-                    head,
-                    next,
-                    k,
-                    marks,
-                    owners,
-                    trail,
-                    end,
-                );
+                end = discard(codes, &faces[2], links, m, k, state, end);
             }
         }
     }

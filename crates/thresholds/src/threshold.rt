@@ -3,14 +3,15 @@ ghost use mathlib.Core.Path.{_≡_};
 ghost use Prim.Native.Nat.{_*_, _<_, _≤_};
 ghost use lib.ListN.{length};
 ghost use Rattle.fillings.specs.Tables.{All-below, Alive-from, Between, Least-set};
-ghost use Rattle.trail.specs.State.{Coded, Living, Sized};
+ghost use Rattle.trail.specs.State.{marks-of, owners-of, held-of, Coded, Sized-state, Trail-same};
+ghost use Rattle.pruning.specs.Pruned.{Prunable};
 ghost use Rattle.thresholds.specs.Begun.{Begun};
 use candidates::pairs::chain;
 use propagation::choose::choose_on_boundary;
 use pruning::prune::drop_below;
 use pruning::prune::prune_from;
 use pruning::prune::sweep;
-use trail::counts::count_owners;
+use trail::counts::recount;
 use trail::marks::undo;
 
 // The greatest quality of an owner, by face code.
@@ -25,9 +26,9 @@ pub(crate) struct Tightened {
 }
 
 // The candidates of quality q at least alive, nothing set.
-pub(crate) fn start(qualities: &[u32], m: usize, q: u32, marks: &mut [u8])
-    requires { ⌜ (m ≤ 1820) × (m ≤ length (now qualities)) × (length (now marks) ≡ 1820) ⌝ }
-    ensures { λ _. ⌜ Alive-from (now (qualities .entry)) m q (now (marks .exit)) × (length (now (marks .exit)) ≡ 1820) ⌝ }
+pub(crate) fn start(qualities: &[u32], m: usize, q: u32, marks: &mut [u16; 4096])
+    requires { ⌜ (m ≤ 1820) × (m ≤ length (now qualities)) × (length (now marks) ≡ 4096) ⌝ }
+    ensures { λ _. ⌜ Alive-from (now (qualities .entry)) m q (now (marks .exit)) × (length (now (marks .exit)) ≡ 4096) ⌝ }
 {
     for k in 0..m {
         if q <= qualities[k] {
@@ -39,25 +40,16 @@ pub(crate) fn start(qualities: &[u32], m: usize, q: u32, marks: &mut [u8])
 }
 
 // The same with the owners counted.
-pub fn begin(
-    codes: &[u16],
-    qualities: &[u32],
-    m: usize,
-    q: u32,
-    marks: &mut [u8],
-    owners: &mut [u16],
-    held: &mut [u16],
-)
-    requires { ⌜ Coded m (now codes) × (m ≤ length (now qualities)) × (length (now marks) ≡ 1820) × (length (now owners) ≡ 4096) × (length (now held) ≡ 4096) ⌝ }
-    ensures { λ _. ⌜ Begun m (now (codes .entry)) (now (qualities .entry)) q (now (marks .exit)) (now (owners .exit)) (now (held .exit)) ⌝ }
+pub fn begin(codes: &[u16], qualities: &[u32], m: usize, q: u32, state: &mut [[u16; 4096]; 4])
+    requires { ⌜ Coded m (now codes) × (m ≤ length (now qualities)) × Sized-state (now state) ⌝ }
+    ensures { λ _. ⌜ Begun m (now (codes .entry)) (now (qualities .entry)) q (marks-of (now (state .exit))) (owners-of (now (state .exit))) (held-of (now (state .exit))) × Trail-same (now (state .entry)) (now (state .exit)) ⌝ }
 {
-    start(qualities, m, q, marks);
-    count_owners(codes, m, marks, 1, owners);
-    count_owners(codes, m, marks, 2, held);
+    start(qualities, m, q, &mut state[0]);
+    recount(codes, m, state);
 }
 
 // The least quality of the set ones.
-pub fn worst_of(qualities: &[u32], m: usize, mark: [u8; 1820]) -> u32
+pub fn worst_of(qualities: &[u32], m: usize, mark: [u16; 4096]) -> u32
     requires { ⌜ (m ≤ 1820) × (m ≤ length (now qualities)) ⌝ }
     ensures { λ r. ⌜ Least-set (now (qualities .entry)) mark m r ⌝ }
 {
@@ -147,41 +139,25 @@ pub(crate) fn tighten(
     m: usize,
     boundary: &[u16],
     n: usize,
-    bound: &[u8],
-    held: &[u16],
-    head: &[u16],
-    next: &[u16],
+    bound: &[u16],
+    links: &[[u16; 7280]; 2],
     q: u32,
-    marks: &mut [u8],
-    owners: &mut [u16],
-    trail: &mut [u16],
+    state: &mut [[u16; 4096]; 4],
     top: usize,
 ) -> Tightened
-    requires { ⌜ Coded m (now codes) × (m ≤ length (now qualities)) × All-below 4096 n (now boundary) × (length (now bound) ≡ 4096) × (length (now held) ≡ 4096) × (length (now head) ≡ 4096) × (length (now next) ≡ 7280) × Living m (now codes) (now marks) (now owners) (now trail) top ⌝ }
-    ensures { λ r. ⌜ Living m (now (codes .entry)) (now (marks .exit)) (now (owners .exit)) (now (trail .exit)) (r .top) ⌝ }
+    requires { ⌜ Prunable m (now codes) (now bound) (now state) top × (m ≤ length (now qualities)) × All-below 4096 n (now boundary) ⌝ }
+    ensures { λ r. ⌜ Prunable m (now (codes .entry)) (now (bound .entry)) (now (state .exit)) (r .top) ⌝ }
 {
-    let low = drop_below(codes, m, qualities, q, marks, owners, trail, top);
-    let end = prune_from(
-        codes,
-        bound,
-        m,
-        held,
-        head,
-        next,
-        top,
-        marks,
-        owners,
-        trail,
-        low,
-    );
-    let c = choose_on_boundary(boundary, n, bound, held, owners);
+    let low = drop_below(codes, m, qualities, q, state, top);
+    let end = prune_from(codes, bound, links, m, top, state, low);
+    let c = choose_on_boundary(boundary, n, bound, state);
     if c.kind != 0 {
         return Tightened {
             hopeless: false,
             top: end,
         };
     }
-    undo(codes, m, trail, top, end, marks, owners);
+    undo(codes, m, top, end, state);
     Tightened {
         hopeless: true,
         top,
@@ -195,23 +171,19 @@ pub(crate) fn upper_bound(
     m: usize,
     boundary: &[u16],
     n: usize,
-    bound: &[u8],
-    head: &[u16],
-    next: &[u16],
-    marks: &mut [u8],
-    owners: &mut [u16],
-    held: &mut [u16],
-    trail: &mut [u16],
+    bound: &[u16],
+    links: &[[u16; 7280]; 2],
+    state: &mut [[u16; 4096]; 4],
 ) -> u32
-    requires { ⌜ Coded m (now codes) × (m ≤ length (now qualities)) × All-below 4096 n (now boundary) × (length (now bound) ≡ 4096) × (length (now head) ≡ 4096) × (length (now next) ≡ 7280) × (length (now marks) ≡ 1820) × (length (now owners) ≡ 4096) × (length (now held) ≡ 4096) × (length (now trail) ≡ 1820) ⌝ }
-    ensures { λ r. ⌜ (r ≤ 1000000) × Sized (now (marks .exit)) (now (owners .exit)) (now (held .exit)) (now (trail .exit)) ⌝ }
+    requires { ⌜ Coded m (now codes) × (m ≤ length (now qualities)) × All-below 4096 n (now boundary) × (length (now bound) ≡ 4096) × Sized-state (now state) ⌝ }
+    ensures { λ r. ⌜ r ≤ 1000000 ⌝ }
 {
     let t = tops_of(codes, qualities, m);
     let most = ceiling(&t.top, boundary, n);
     let mut low = most / 3;
     let mut high = most + 1;
-    begin(codes, qualities, m, low, marks, owners, held);
-    let mut top = sweep(codes, bound, m, held, head, next, marks, owners, trail, 0);
+    begin(codes, qualities, m, low, state);
+    let mut top = sweep(codes, bound, links, m, state, 0);
     let mut q = most;
     while low < q {
         let r = tighten(
@@ -221,13 +193,9 @@ pub(crate) fn upper_bound(
             boundary,
             n,
             bound,
-            held,
-            head,
-            next,
+            links,
             q,
-            marks,
-            owners,
-            trail,
+            state,
             top,
         );
         top = r.top;
@@ -248,32 +216,15 @@ pub fn opening(
     m: usize,
     boundary: &[u16],
     n: usize,
-    bound: &[u8],
+    bound: &[u16],
 ) -> u32
     requires { ⌜ Coded m (now codes) × (m ≤ length (now qualities)) × All-below 4096 n (now boundary) × (length (now bound) ≡ 4096) ⌝ }
     ensures { λ r. ⌜ (0 < r) × (r ≤ 1000000) ⌝ }
 {
-    let mut head = [0u16; 4096];
-    let mut next = [0u16; 7280];
-    chain(codes, m, &mut head, &mut next);
-    let mut marks = [0u8; 1820];
-    let mut owners = [0u16; 4096];
-    let mut held = [0u16; 4096];
-    let mut trail = [0u16; 1820];
-    let q = upper_bound(
-        codes,
-        qualities,
-        m,
-        boundary,
-        n,
-        bound,
-        &head,
-        &next,
-        &mut marks,
-        &mut owners,
-        &mut held,
-        &mut trail,
-    );
+    let mut links = [[0u16; 7280]; 2];
+    chain(codes, m, &mut links);
+    let mut state = [[0u16; 4096]; 4];
+    let q = upper_bound(codes, qualities, m, boundary, n, bound, &links, &mut state);
     if q == 0 {
         return 1;
     }

@@ -62,10 +62,10 @@ trailed-trans f g =
     }
 
 -- ---- setting: the alive owners fewer, the set owners more; and back
-marked-within : {m : ℕ} {codes : List ℕ} (ms : List ℕ) {t : ℕ} → Coded m codes → length ms ≡ 1820 → t < m → t < length ms
+marked-within : {m : ℕ} {codes : List ℕ} (ms : List ℕ) {t : ℕ} → Coded m codes → length ms ≡ 4096 → t < m → t < length ms
 marked-within ms d l b = let few = d .few in omega arith
 
-module _ {m : ℕ} {codes ms : List ℕ} {t : ℕ} {ow held ow2 held2 : List ℕ} (d : Coded m codes) (l : length ms ≡ 1820) (b : t < m) where
+module _ {m : ℕ} {codes ms : List ℕ} {t : ℕ} {ow held ow2 held2 : List ℕ} (d : Coded m codes) (l : length ms ≡ 4096) (b : t < m) where
   pub set-one :
       getD ms t 0 ≡ 1 → Counts 1 m codes ms ow → Counts 2 m codes ms held → Counted-out codes t ow ow2 → Counted-in codes t held held2 → Set m codes t ms (set ms t 2) ow2 held2
   set-one a x y o i =

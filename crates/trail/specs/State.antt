@@ -1,30 +1,63 @@
--- The state of a search by lists: a mark for each candidate (0 dropped, 1 alive, 2 set), counts of the alive and of the set owners of each face, and the trail: the candidates dropped, in order, so that they can be taken back. Assumes nothing: these are definitions.
+-- The state of a search: four rows of numbers. A mark for each candidate (0 dropped, 1 alive, 2 set), counts of the alive and of the set owners of each face, and the trail: the candidates dropped, in order, so that they can be taken back. Assumes nothing: these are definitions.
 use mathlib.Core.Path.{_≡_}
-use mathlib.Core.List.{List}
+use mathlib.Core.List.{List, []}
 use Prim.Native.Nat.{ℕ, suc, _+_, _*_, _≤_, _<_}
 use lib.ListN.{length, getD, set}
 use Rattle.fillings.specs.Marks.{live}
 use Rattle.fillings.specs.Tables.{All-below}
 use Rattle.trail.specs.Counts.{Counts}
 
+-- the rows
+abbrev pub marks-of : (state : List (List ℕ)) → List ℕ
+marks-of s = getD s 0 []
+
+abbrev pub owners-of : (state : List (List ℕ)) → List ℕ
+owners-of s = getD s 1 []
+
+abbrev pub held-of : (state : List (List ℕ)) → List ℕ
+held-of s = getD s 2 []
+
+abbrev pub trail-of : (state : List (List ℕ)) → List ℕ
+trail-of s = getD s 3 []
+
 -- the face codes of m candidates
 pub record Coded (m : ℕ) (codes : List ℕ) : Type 0 where
   pub few : m ≤ 1820
   pub below : All-below 4096 (m * 4) codes
 
--- the buffers of a state are as long as they must be
+-- the rows of a state are as long as they must be
 pub record Sized (marks owners held trail : List ℕ) : Type 0 where
-  pub marks-long : length marks ≡ 1820
+  pub marks-long : length marks ≡ 4096
   pub owners-long : length owners ≡ 4096
   pub held-long : length held ≡ 4096
-  pub trail-long : length trail ≡ 1820
+  pub trail-long : length trail ≡ 4096
+
+-- a state's four rows, each as long as it must be
+pub record Sized-state (state : List (List ℕ)) : Type 0 where
+  pub rows : length state ≡ 4
+  pub sized : Sized (marks-of state) (owners-of state) (held-of state) (trail-of state)
 
 -- marks, the alive owners of each face, and a trail with room for everything that is alive
 pub record Living (m : ℕ) (codes marks owners trail : List ℕ) (top : ℕ) : Type 0 where
-  pub marks-long : length marks ≡ 1820
+  pub marks-long : length marks ≡ 4096
   pub alive : Counts 1 m codes marks owners
-  pub trail-long : length trail ≡ 1820
+  pub trail-long : length trail ≡ 4096
   pub room : top + live m marks ≤ m
+
+-- a state whose counts are right
+pub record In-order (m : ℕ) (codes : List ℕ) (state : List (List ℕ)) (top : ℕ) : Type 0 where
+  pub rows : length state ≡ 4
+  pub living : Living m codes (marks-of state) (owners-of state) (trail-of state) top
+  pub holds : Counts 2 m codes (marks-of state) (held-of state)
+
+-- what a step leaves alone: the counts of the set owners; the trail
+pub record Held-same (old new : List (List ℕ)) : Type 0 where
+  pub rows : length new ≡ 4
+  pub held : held-of new ≡ held-of old
+
+pub record Trail-same (old new : List (List ℕ)) : Type 0 where
+  pub rows : length new ≡ 4
+  pub trail : trail-of new ≡ trail-of old
 
 -- from the marks ms to ns by dropping the alive candidates that the trail has from `from` up to `to`, in that order
 pub data Traced (m : ℕ) (trail : List ℕ) (from : ℕ) : (to : ℕ) → (ms ns : List ℕ) → Type 0 where
@@ -62,3 +95,11 @@ pub record Unset (m : ℕ) (codes : List ℕ) (t : ℕ) (ms ns owners held : Lis
   pub marks : ns ≡ set ms t 1
   pub alive : Counts 1 m codes ns owners
   pub set : Counts 2 m codes ns held
+
+-- the counts were made anew; marks and trail are as they were
+pub record Recounted (m : ℕ) (codes : List ℕ) (old new : List (List ℕ)) : Type 0 where
+  pub rows : length new ≡ 4
+  pub marks : marks-of new ≡ marks-of old
+  pub alive : Counts 1 m codes (marks-of old) (owners-of new)
+  pub set : Counts 2 m codes (marks-of old) (held-of new)
+  pub trail : trail-of new ≡ trail-of old

@@ -61,9 +61,8 @@ module _ {j : Job} {fours ms fours2 codes2 qualities2 : List ℕ} {k c : ℕ} (w
         fours-in-put c (getD fours (k * 4) 0) (getD fours (k * 4 + 1) 0) (getD fours (k * 4 + 2) 0) (getD fours (k * 4 + 3) 0) fours2 (omega (arith, w .fours-long, compacted-below))
         ∙ ap (λ (f : Four). fours-in c fours2 ++ (f ∷ [])) (sym (fours-in-nth m fours k _ l))
 
-    pub compacted-copy :
-        getD ms k 0 ≡ 1 → Compacted j fours ms (k + 1) (copied k c fours fours2) (copied k c codes codes2) (set qualities2 c (getD qualities k 0)) (c + 1)
-    compacted-copy h =
+    one-copied : getD ms k 0 ≡ 1 → Compacted j fours ms (k + 1) (copied k c fours fours2) (copied k c codes codes2) (set qualities2 c (getD qualities k 0)) (c + 1)
+    one-copied h =
         record {
           alive =
               one-more ∙ ap (λ (f : Four). fours-in c fours2 ++ (f ∷ [])) (fours-in-nth m fours k _ l)
@@ -79,10 +78,10 @@ module _ {j : Job} {fours ms fours2 codes2 qualities2 : List ℕ} {k c : ℕ} (w
           qualities-long = length-set qualities2 c (getD qualities k 0) ∙ w .qualities-long;
         }
 
-pub compacted-at :
-    {j : Job} {fours ms : List ℕ} {k : ℕ} {fours2 fours3 codes2 codes3 qualities2 qualities3 : List ℕ} {c d : ℕ} → fours2 ≡ fours3 → codes2 ≡ codes3 → qualities2 ≡ qualities3 → c ≡ d →
-    Compacted j fours ms k fours3 codes3 qualities3 d → Compacted j fours ms k fours2 codes2 qualities2 c
-compacted-at p q r s w = rw (p, q, r, s) w
+    pub compacted-copy :
+        {fours3 codes3 qualities3 : List ℕ} → getD ms k 0 ≡ 1 → fours3 ≡ copied k c fours fours2 → codes3 ≡ copied k c codes codes2 → qualities3 ≡ set qualities2 c (getD qualities k 0) →
+        Compacted j fours ms (k + 1) fours3 codes3 qualities3 (c + 1)
+    compacted-copy h a b d = rw (a, b, d) (one-copied h)
 
 -- all passed
 pub compacted-filed :

@@ -1,8 +1,11 @@
 -- What a face and a corner answer, from what was propagated, set and tried. Assumes nothing.
-use mathlib.Core.Path.{_≡_, refl, sym, _∙_}
+use mathlib.Core.Path.{_≡_, sym, subst, _∙_}
 use mathlib.Core.Bool.{Bool, true, false, true≢false}
 use mathlib.Core.List.{List}
-use Prim.Native.Nat.{ℕ, _≤_}
+use Prim.Native.Nat.{ℕ, _≤_, _<_}
+use native.Mathlib.Omega.{arith}
+use lib.Dec.{eqb}
+use borrow.Author.Tests.{eqb-true, eqb-false}
 use Rattle.geometry.specs.declared.tetrahedron.Four.{Four}
 use Rattle.laws.specs.Laws.{Job, fours-in}
 use Rattle.laws.specs.Lists.{Lists}
@@ -37,6 +40,9 @@ corner-failed h g e c b =
     }
 
 -- ---- a face
+below-two : {n : ℕ} → n < 2 → (n ≡ 1 → ⊥) → n ≡ 0
+below-two l n = omega (arith, n)
+
 pub face-found :
     {j : Job} {cs : List Four} {m t : ℕ} {codes ms held tr : List ℕ} {top : ℕ} {ls ow1 held1 ur : List ℕ} {mid : ℕ} {found : Bool} {ns ow2 held2 vr : List ℕ} {end : ℕ} →
     Reduced j cs ms ls → found ≡ true → Explored-corner j cs m t ls ow1 held1 ur mid found ns ow2 held2 vr → Explored j cs m codes ms held tr top found ns ow2 held2 vr end
@@ -50,40 +56,36 @@ face-found {cs = cs} {ns = ns} d e r =
 
 module _ {L : Lists} {m : ℕ} {fours codes ms held tr : List ℕ} {top kind face : ℕ} {ns ow ur : List ℕ} {end : ℕ}
     (g : Counts 2 m codes ms held) (z : Propagation L m fours codes ms tr top kind face ns ow ur end) where
-  pub propagated-counts : Counts 2 m codes ns held
-  propagated-counts = traced-counts (z .trailed .traced) g
+  pub propagated-counts : {held1 : List ℕ} → held1 ≡ held → Counts 2 m codes ns held1
+  propagated-counts h = subst (λ (xs : List ℕ). Counts 2 m codes ns xs) (sym h) (traced-counts (z .trailed .traced) g)
 
-  pub face-hopeless : kind ≡ 0 → Explored (job L) (fours-in m fours) m codes ms held tr top false ns ow held ur end
-  face-hopeless e =
+  -- hopeless, or a filling
+  pub face-closed : {held1 : List ℕ} → held1 ≡ held → kind < 2 → Explored (job L) (fours-in m fours) m codes ms held tr top (eqb kind 1) ns ow held1 ur end
+  face-closed {held1} h l =
       record {
-        sized = sized-now (z .trailed .living) propagated-counts;
-        extended = record { yes = λ q. absurd (true≢false (sym q)); no = λ q F f. z .propagates .hopeless e F (z .propagates .reduced .keeps F f) };
+        sized = sized-now (z .trailed .living) (propagated-counts h);
+        extended =
+            record {
+              yes = λ q. reduced-back (z .propagates .reduced) _ (z .propagates .done (eqb-true _ _ q));
+              no = λ q F f. z .propagates .hopeless (below-two l (eqb-false _ _ q)) F (z .propagates .reduced .keeps F f);
+            };
         trailed = λ q. z .trailed;
-        set = λ q. refl;
-      }
-
-  pub face-done : kind ≡ 1 → Explored (job L) (fours-in m fours) m codes ms held tr top true ns ow held ur end
-  face-done e =
-      record {
-        sized = sized-now (z .trailed .living) propagated-counts;
-        extended = record { yes = λ q. reduced-back (z .propagates .reduced) _ (z .propagates .done e); no = λ q. absurd (true≢false q) };
-        trailed = λ q. absurd (true≢false q);
-        set = λ q. absurd (true≢false q);
+        set = λ q. h;
       }
 
   -- every owner of the open face failed
   pub face-failed :
-      {bound ls ow2 held2 vr : List ℕ} {last k : ℕ} → Context L fours codes bound m → (kind ≡ 0 → ⊥) → (kind ≡ 1 → ⊥) → m ≤ k →
-      Exploring (job L) (fours-in m fours) m codes face ns held ur end ls ow2 held2 vr last k →
+      {bound held1 ls ow2 held2 vr : List ℕ} {last k : ℕ} → held1 ≡ held → Context L fours codes bound m → 2 ≤ kind → m ≤ k →
+      Exploring (job L) (fours-in m fours) m codes face ns held1 ur end ls ow2 held2 vr last k →
       Explored (job L) (fours-in m fours) m codes ms held tr top false ls ow2 held2 vr last
-  face-failed x a b l s =
+  face-failed h x a l s =
       record {
-        sized = sized-now (s .trailed .living) (exploring-counts s propagated-counts);
+        sized = sized-now (s .trailed .living) (exploring-counts s (propagated-counts h));
         extended =
             record {
               yes = λ q. absurd (true≢false (sym q));
-              no = λ q F f. tried-none x (z .propagates .opens a b) (tried-all l (s .tried)) F (z .propagates .reduced .keeps F f);
+              no = λ q F f. tried-none x (z .propagates .opens (λ e. omega arith) (λ e. omega arith)) (tried-all l (s .tried)) F (z .propagates .reduced .keeps F f);
             };
         trailed = λ q. trailed-trans (z .trailed) (s .trailed);
-        set = λ q. s .set;
+        set = λ q. s .set ∙ h;
       }

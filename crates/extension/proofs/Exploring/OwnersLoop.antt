@@ -16,7 +16,7 @@ use Rattle.fillings.proofs.ByNumber.FaceLoop.{Tried, tried-start, tried-skip, t
 use Rattle.fillings.proofs.ByNumber.Reduction.{reduced-failed}
 use Rattle.fillings.proofs.ByCode.Context.{context-count}
 use Rattle.trail.specs.Counts.{Counts}
-use Rattle.trail.specs.State.{Living, Trailed}
+use Rattle.trail.specs.State.{marks-of, owners-of, held-of, trail-of, Living, In-order, Held-same, Trailed}
 use Rattle.trail.proofs.Tracing.{traced-counts}
 use Rattle.trail.proofs.Trailing.{trailed-none, trailed-trans}
 use Rattle.shaving.specs.Shaved.{Discarded, As-it-was, Shaved}
@@ -28,10 +28,6 @@ pub record Exploring (j : Job) (cs : List Four) (m : ℕ) (codes : List ℕ) (at
   pub trailed : Trailed m codes ms tr top ns ow ur end
   pub set : held-now ≡ held
   pub tried : Tried j cs codes at ms ns k
-
-pub exploring-start :
-    {m : ℕ} {codes ms ow held tr : List ℕ} {top : ℕ} (j : Job) (cs : List Four) (at : ℕ) → Living m codes ms ow tr top → Exploring j cs m codes at ms held tr top ms ow held tr top 0
-exploring-start {codes = codes} {ms} j cs at h = record { trailed = trailed-none h; set = refl; tried = tried-start j cs codes at ms }
 
 module _ {j : Job} {cs : List Four} {m : ℕ} {codes : List ℕ} {at : ℕ} {ms held tr : List ℕ} {top : ℕ} {ns ow held1 ur : List ℕ} {end k : ℕ}
     (s : Exploring j cs m codes at ms held tr top ns ow held1 ur end k) where
@@ -45,11 +41,6 @@ module _ {j : Job} {cs : List Four} {m : ℕ} {codes : List ℕ} {at : ℕ} {ms 
   -- set and taken back
   pub exploring-back : {ls ow2 held2 vr : List ℕ} → As-it-was m ns ow held1 ur end ls ow2 held2 vr → Exploring j cs m codes at ms held tr top ls ow2 held2 vr end k
   exploring-back b = record { trailed = trailed-back b (s .trailed); set = b .set ∙ s .set; tried = subst (λ (xs : List ℕ). Tried j cs codes at ms xs k) (sym (b .marks)) (s .tried) }
-
-  -- others dropped beside the loop
-  pub exploring-shaved :
-      {ls ow2 held2 vr : List ℕ} {last : ℕ} → k ≤ length cs → Shaved j cs m codes ns held1 ur end ls ow2 held2 vr last → Exploring j cs m codes at ms held tr top ls ow2 held2 vr last k
-  exploring-shaved l d = record { trailed = trailed-trans (s .trailed) (d .trailed); set = d .set ∙ s .set; tried = tried-reduced l (d .reduced) (s .tried) }
 
 -- an owner failed, and was dropped
 pub exploring-failed :
@@ -67,7 +58,40 @@ exploring-failed {L} {m} {fours} {codes} {bound} {ns = ns} {k = k} {xs = xs} x l
     dead : {v : ℕ} → v ≡ 0 → v ≡ 1 → ⊥
     dead p q = omega arith
 
-pub exploring-moved :
-    {j : Job} {cs : List Four} {m : ℕ} {codes : List ℕ} {at : ℕ} {ms held tr : List ℕ} {top : ℕ} {ns ow held1 ur ls ow2 held2 vr : List ℕ} {end last k : ℕ} →
-    ls ≡ ns → ow2 ≡ ow → held2 ≡ held1 → vr ≡ ur → last ≡ end → Exploring j cs m codes at ms held tr top ns ow held1 ur end k → Exploring j cs m codes at ms held tr top ls ow2 held2 vr last k
-exploring-moved a b c d e s = rw a (rw b (rw c (rw d (rw e s))))
+-- ---- the same from state to state
+pub exploring-start :
+    {m : ℕ} {codes : List ℕ} {top : ℕ} (j : Job) (cs : List Four) (at : ℕ) (state : List (List ℕ)) → Living m codes (marks-of state) (owners-of state) (trail-of state) top →
+    Exploring j cs m codes at (marks-of state) (held-of state) (trail-of state) top (marks-of state) (owners-of state) (held-of state) (trail-of state) top 0
+exploring-start {codes = codes} j cs at state h = record { trailed = trailed-none h; set = refl; tried = tried-start j cs codes at (marks-of state) }
+
+pub exploring-in-order :
+    {j : Job} {cs : List Four} {m : ℕ} {codes : List ℕ} {at : ℕ} (old : List (List ℕ)) {new : List (List ℕ)} {top end k : ℕ} → Counts 2 m codes (marks-of old) (held-of old) → length new ≡ 4 →
+    Exploring j cs m codes at (marks-of old) (held-of old) (trail-of old) top (marks-of new) (owners-of new) (held-of new) (trail-of new) end k → In-order m codes new end
+exploring-in-order old g r s = record { rows = r; living = s .trailed .living; holds = exploring-counts s g }
+
+pub exploring-discarded :
+    {L : Lists} {m : ℕ} {fours codes bound : List ℕ} {at : ℕ} (old now : List (List ℕ)) {tried new : List (List ℕ)} {top end k : ℕ} {found : Bool} {last : ℕ} →
+    Context L fours codes bound m → k < m → getD (marks-of now) k 0 ≡ 1 → Counts 2 m codes (marks-of old) (held-of old) → found ≡ false →
+    Explored-corner (job L) (fours-in m fours) m k (marks-of now) (owners-of now) (held-of now) (trail-of now) end found (marks-of tried) (owners-of tried) (held-of tried) (trail-of tried) →
+    Discarded m codes bound (held-of tried) (marks-of tried) (trail-of tried) end k (marks-of new) (owners-of new) (trail-of new) last → Held-same tried new →
+    Exploring (job L) (fours-in m fours) m codes at (marks-of old) (held-of old) (trail-of old) top (marks-of now) (owners-of now) (held-of now) (trail-of now) end k →
+    (length new ≡ 4) × Exploring (job L) (fours-in m fours) m codes at (marks-of old) (held-of old) (trail-of old) top (marks-of new) (owners-of new) (held-of new) (trail-of new) last (k + 1)
+exploring-discarded old now x l a g e r d h s =
+    let t = exploring-failed x l a g e r d s in
+    (h .rows, record { trailed = t .trailed; set = h .held ∙ t .set; tried = t .tried })
+
+-- others dropped beside the loop
+pub exploring-shaved :
+    {j : Job} {cs : List Four} {m : ℕ} {codes : List ℕ} {at : ℕ} (old now new : List (List ℕ)) {top end last k : ℕ} → k ≤ length cs →
+    Exploring j cs m codes at (marks-of old) (held-of old) (trail-of old) top (marks-of now) (owners-of now) (held-of now) (trail-of now) end k →
+    Shaved j cs m codes (marks-of now) (held-of now) (trail-of now) end (marks-of new) (owners-of new) (held-of new) (trail-of new) last → length new ≡ 4 →
+    (length new ≡ 4) × Exploring j cs m codes at (marks-of old) (held-of old) (trail-of old) top (marks-of new) (owners-of new) (held-of new) (trail-of new) last k
+exploring-shaved old now new l s d r =
+    (r, record { trailed = trailed-trans (s .trailed) (d .trailed); set = d .set ∙ s .set; tried = tried-reduced l (d .reduced) (s .tried) })
+
+-- one step of the loop, whose state has the new one's value
+pub exploring-step :
+    {j : Job} {cs : List Four} {m : ℕ} {codes : List ℕ} {at : ℕ} (old : List (List ℕ)) {new moved : List (List ℕ)} {top end last k : ℕ} → k < m → moved ≡ new → last ≡ end →
+    (length new ≡ 4) × Exploring j cs m codes at (marks-of old) (held-of old) (trail-of old) top (marks-of new) (owners-of new) (held-of new) (trail-of new) end (k + 1) →
+    (k + 1 ≤ m) × (length moved ≡ 4) × Exploring j cs m codes at (marks-of old) (held-of old) (trail-of old) top (marks-of moved) (owners-of moved) (held-of moved) (trail-of moved) last (k + 1)
+exploring-step old l a e s = rw a (rw e (omega arith, s .0, s .1))

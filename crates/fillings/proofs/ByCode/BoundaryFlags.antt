@@ -3,8 +3,8 @@ use mathlib.Core.Path.{_≡_, refl, sym, ap, _∙_}
 use mathlib.Core.Bool.{Bool, true, false, _||_}
 use mathlib.Core.Logic.{_⊎_, inl, inr}
 use mathlib.Core.List.{List}
-use Prim.Native.Nat.{ℕ, _≤_, _<_}
-use borrow.Author.Tests.{ltb-true, lt-ltb, le-ltb}
+use Prim.Native.Nat.{ℕ, _<_}
+use borrow.Author.Tests.{ltb-true, lt-ltb}
 use lib.Dec.{ltb}
 use lib.ListN.{getD}
 use Rattle.geometry.specs.declared.tetrahedron.Four.{Four}
@@ -64,32 +64,3 @@ module _ {T : List Tri} {bnd : List ℕ} (proper : Each Proper T) (bf : Bound-fl
       last false false true v = refl
       last false false false true = refl
       last false false false false = refl
-
--- ---- the test of the four flags, one after the other
-at-flip : (bnd : List ℕ) (c : ℕ) {i : ℕ} → i ≡ flip-code c → ltb 0 (getD bnd (flip-code c) 0) ≡ ltb 0 (getD bnd i 0)
-at-flip bnd c e = sym (ap (λ (j : ℕ). ltb 0 (getD bnd j 0)) e)
-
-up : (bnd : List ℕ) (c : ℕ) {i : ℕ} → i ≡ flip-code c → 0 < getD bnd i 0 → ltb 0 (getD bnd (flip-code c) 0) ≡ true
-up bnd c {i} e h = at-flip bnd c e ∙ lt-ltb 0 (getD bnd i 0) h
-
-down : (bnd : List ℕ) (c : ℕ) {i : ℕ} → i ≡ flip-code c → getD bnd i 0 ≤ 0 → ltb 0 (getD bnd (flip-code c) 0) ≡ false
-down bnd c {i} e h = at-flip bnd c e ∙ le-ltb 0 (getD bnd i 0) h
-
-module _ (bnd : List ℕ) (a b c d : ℕ) where
-  abbrev one-up : Bool
-  one-up = ltb 0 (getD bnd (flip-code a) 0) || (ltb 0 (getD bnd (flip-code b) 0) || (ltb 0 (getD bnd (flip-code c) 0) || ltb 0 (getD bnd (flip-code d) 0)))
-
-  module _ {i : ℕ} (e : i ≡ flip-code a) where
-    pub first-up : 0 < getD bnd i 0 → true ≡ one-up
-    first-up h = rw (up bnd a e h) refl
-
-    module _ {j : ℕ} (first : getD bnd i 0 ≤ 0) (f : j ≡ flip-code b) where
-      pub second-up : 0 < getD bnd j 0 → true ≡ one-up
-      second-up h = rw (down bnd a e first, up bnd b f h) refl
-
-      module _ {k : ℕ} (second : getD bnd j 0 ≤ 0) (g : k ≡ flip-code c) where
-        pub third-up : 0 < getD bnd k 0 → true ≡ one-up
-        third-up h = rw (down bnd a e first, down bnd b f second, up bnd c g h) refl
-
-        pub fourth-decides : {l : ℕ} → getD bnd k 0 ≤ 0 → l ≡ flip-code d → ltb 0 (getD bnd l 0) ≡ one-up
-        fourth-decides third h = sym (at-flip bnd d h) ∙ rw (down bnd a e first, down bnd b f second, down bnd c g third) refl

@@ -21,14 +21,14 @@ module _ (a b c : ℕ) where
 
 -- ---- the first i triangles are numbered
 pub record Boundary-codes-to (i : ℕ) (ts boundary : List ℕ) : Type 0 where
-  pub long : length boundary ≡ 560
+  pub long : length boundary ≡ 4096
   pub each : (n : ℕ) → n < i → getD boundary n 0 ≡ face-code (tri-at ts n)
   pub small : (n : ℕ) → n < i → getD boundary n 0 < 4096
 
-pub boundary-codes-start : (ts : List ℕ) → Boundary-codes-to 0 ts (replicate 560 0)
-boundary-codes-start ts = record { long = length-replicate {A = ℕ} 560 0; each = λ n h. absurd (omega arith); small = λ n h. absurd (omega arith) }
+pub boundary-codes-start : (ts : List ℕ) → Boundary-codes-to 0 ts (replicate 4096 0)
+boundary-codes-start ts = record { long = length-replicate {A = ℕ} 4096 0; each = λ n h. absurd (omega arith); small = λ n h. absurd (omega arith) }
 
-pub boundary-codes-next : {ts boundary : List ℕ} {i : ℕ} (x : ℕ) → i < 560 → x ≡ face-code (tri-at ts i) → x < 4096 → Boundary-codes-to i ts boundary → Boundary-codes-to (i + 1) ts (set boundary i x)
+pub boundary-codes-next : {ts boundary : List ℕ} {i : ℕ} (x : ℕ) → i < 4096 → x ≡ face-code (tri-at ts i) → x < 4096 → Boundary-codes-to i ts boundary → Boundary-codes-to (i + 1) ts (set boundary i x)
 boundary-codes-next {ts} {boundary} {i} x l e s r =
     record { long = length-set boundary i x ∙ r .long; each = λ n h. is n h (ℕ-discrete n i); small = λ n h. below n h (ℕ-discrete n i) }
   where

@@ -32,12 +32,6 @@ module _ {m : ℕ} {codes fours corners piercing held : List ℕ} {t : ℕ} {ls 
       {ow : List ℕ} → Living m codes ls ow tr top → Counts 2 m codes ls held → Placing m codes fours corners piercing held t ls tr top 0 ls ow tr top
   placing-start h c = record { trailed = trailed-none h; holds = c; free = λ i l. absurd (omega arith); fallen = λ i e. inl e }
 
-  -- the same state under other names
-  pub placing-at :
-      {k : ℕ} {ns ow ur ns2 ow2 ur2 : List ℕ} {end end2 : ℕ} → ns2 ≡ ns → ow2 ≡ ow → ur2 ≡ ur → end2 ≡ end → Placing m codes fours corners piercing held t ls tr top k ns ow ur end →
-      Placing m codes fours corners piercing held t ls tr top k ns2 ow2 ur2 end2
-  placing-at e f g h p = rw (e, f, g, h) p
-
   module _ {k : ℕ} {ns ow ur : List ℕ} {end : ℕ} (p : Placing m codes fours corners piercing held t ls tr top k ns ow ur end) where
     -- it stays as it is
     pub placing-stays : (getD ns k 0 ≡ 1 → Free codes held k) → Placing m codes fours corners piercing held t ls tr top (k + 1) ns ow ur end

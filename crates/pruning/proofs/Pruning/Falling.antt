@@ -1,8 +1,7 @@
 -- An alive candidate that is stuck falls without losing a filling; so does what falls one after another. Assumes nothing.
 use mathlib.Core.Path.{_≡_, sym, ap, subst, _∙_}
-use mathlib.Core.Bool.{false}
 use mathlib.Core.List.{List}
-use Prim.Native.Nat.{ℕ, _*_, _/_, _%_, _≤_, _<_}
+use Prim.Native.Nat.{ℕ, _≤_, _<_}
 use native.Mathlib.Omega.{arith}
 use native.Mathlib.Decide.{ℕ-discrete}
 use lib.ListN.{getD}
@@ -10,7 +9,7 @@ use Rattle.laws.specs.inner.FaceCodes.{flip-code}
 use Rattle.laws.specs.Laws.{fours-in}
 use Rattle.laws.specs.Check.{job}
 use Rattle.fillings.specs.Marks.{Reduced}
-use Rattle.fillings.specs.Codes.{Owns, Owner, open-code}
+use Rattle.fillings.specs.Codes.{Owner}
 use Rattle.fillings.specs.Steps.{Stuck}
 use Rattle.fillings.proofs.ByNumber.Reduction.{reduced-refl, reduced-trans}
 use Rattle.fillings.proofs.ByCode.OpenCodes.{flip-flip}
@@ -47,7 +46,7 @@ pruned-stuck {m} {ms = ms} d h l a s f =
     }
 
 -- a face without an alive owner stays so
-lone-stays :
+pub lone-stays :
     {m : ℕ} {codes ms tr : List ℕ} {top : ℕ} {ow ns o2 ur : List ℕ} {end : ℕ} (c : ℕ) → Coded m codes → Living m codes ms ow tr top → Trailed m codes ms tr top ns o2 ur end →
     getD ow c 0 ≡ 0 → getD o2 c 0 ≡ 0
 lone-stays {m} {codes} {ms} {ow = ow} {ns = ns} {o2 = o2} c d h f z = go (ℕ-discrete (getD o2 c 0) 0)
@@ -62,19 +61,3 @@ lone-stays {m} {codes} {ms} {ow = ow} {ns = ns} {o2 = o2} c d h f z = go (ℕ-di
 -- ---- the owners of a face that is shut, behind which no alive candidate stands
 pub behind-lone : (ow : List ℕ) (c : ℕ) {r : ℕ} → r ≡ flip-code c → getD ow c 0 ≤ 0 → getD ow (flip-code r) 0 ≡ 0
 behind-lone ow c e z = ap (λ (d : ℕ). getD ow (flip-code d) 0) e ∙ ap (λ (d : ℕ). getD ow d 0) (flip-flip c) ∙ omega arith
-
-pub record Owners-fallen (m : ℕ) (codes bound held : List ℕ) (r : ℕ) (ms tr : List ℕ) (top : ℕ) (ns ow ur : List ℕ) (end : ℕ) : Type 0 where
-  pub lone : getD ow (flip-code r) 0 ≡ 0
-  pub pruned : Pruned m codes bound held ms tr top ns ow ur end
-
-pub owners-fallen-next :
-    {m : ℕ} {codes bound held : List ℕ} {r : ℕ} {ms tr : List ℕ} {top : ℕ} {ls o1 ur : List ℕ} {mid : ℕ} {ns o2 vr : List ℕ} {end : ℕ} (j : ℕ) → Coded m codes → open-code held bound r ≡ false → j < m * 4 →
-    getD codes j 0 ≡ r → getD ls (j / 4) 0 ≡ 1 → Dropped m codes ls ur mid (j / 4) ns o2 vr end → Owners-fallen m codes bound held r ms tr top ls o1 ur mid → Owners-fallen m codes bound held r ms tr top ns o2 vr end
-owners-fallen-next {codes = codes} {r = r} j d shut l e a f g =
-    record {
-      lone = lone-stays (flip-code r) d (g .pruned .trailed .living) (f .trailed) (g .lone);
-      pruned = pruned-trans (g .pruned) (pruned-stuck d (g .pruned .trailed .living) (omega arith) a (record { face = r; owns = owns; shut = shut; lone = g .lone }) f);
-    }
-  where
-    owns : Owns codes (j / 4) r
-    owns = record { which = j % 4; below = omega arith; is = ap (λ (i : ℕ). getD codes i 0) (omega arith) ∙ e }

@@ -20,11 +20,12 @@ use Rattle.fillings.proofs.ByNumber.Numbers.{marked-in, marked-number}
 use Rattle.fillings.proofs.ByNumber.Reduction.{reduced-extended}
 use Rattle.fillings.proofs.ByCode.Context.{context-count, ready-reduced}
 use Rattle.trail.specs.Counts.{Counts}
+use Rattle.trail.specs.State.{marks-of, owners-of, held-of, trail-of, In-order}
 use Rattle.trail.proofs.Tracing.{traced-counts}
 use Rattle.thresholds.specs.Begun.{Begun}
 use Rattle.raising.specs.Tried.{Attempted-at}
 use Rattle.extension.specs.Explored.{Explored}
-use Rattle.pruning.specs.Pruned.{Pruned}
+use Rattle.pruning.specs.Pruned.{Pruned-state}
 
 -- ---- a search may go on from it, nothing being set
 not-two : (b : Bool) → _≡_ {A = ℕ} (cond b 1 0) 2 → ⊥
@@ -44,19 +45,25 @@ module _ {L : Lists} {fours codes bound : List ℕ} {m : ℕ} (x : Context L fou
       }
 
   -- ---- and pruned: what a search from there finds or does not find
-  module _ {qualities : List ℕ} {q : ℕ} {ms ow held tr ns ow2 ur : List ℕ} {end : ℕ} (b : Begun m codes qualities q ms ow held) (p : Pruned m codes bound held ms tr 0 ns ow2 ur end) where
-    pub swept-reduced : Reduced (job L) (fours-in m fours) ms ns
-    swept-reduced = p .reduced L fours x (b .set)
+  module _ {qualities : List ℕ} {q : ℕ} {s t : List (List ℕ)} {end : ℕ} (b : Begun m codes qualities q (marks-of s) (owners-of s) (held-of s)) (p : Pruned-state m codes bound s 0 t end) where
+    pub swept-reduced : Reduced (job L) (fours-in m fours) (marks-of s) (marks-of t)
+    swept-reduced = p .pruned .reduced L fours x (b .set)
 
-    pub swept-ready : Ready (job L) (fours-in m fours) ns
+    pub swept-ready : Ready (job L) (fours-in m fours) (marks-of t)
     swept-ready = ready-reduced x swept-reduced (alive-context-ready (b .from))
 
     pub attempted-at :
-        {found : Bool} {ls ow3 held3 vr : List ℕ} {last : ℕ} → Explored (job L) (fours-in m fours) m codes ns held ur end found ls ow3 held3 vr last →
-        Attempted-at (job L) (fours-in m fours) m q qualities found ls ow3 held3 vr
-    attempted-at e = record { sized = e .sized; from = ms; alive = b .from; extended = reduced-extended swept-reduced (e .extended) }
+        {found : Bool} {last : ℕ} (u : List (List ℕ)) →
+        Explored (job L) (fours-in m fours) m codes (marks-of t) (held-of t) (trail-of t) end found (marks-of u) (owners-of u) (held-of u) (trail-of u) last →
+        Attempted-at (job L) (fours-in m fours) m q qualities found (marks-of u) (owners-of u) (held-of u) (trail-of u)
+    attempted-at u e = record { sized = e .sized; from = marks-of s; alive = b .from; extended = reduced-extended swept-reduced (e .extended) }
 
--- the counts of the set ones stay, and the buffers are as long as they must be
-module _ {m : ℕ} {codes bound qualities : List ℕ} {q : ℕ} {ms ow held tr ns ow2 ur : List ℕ} {end : ℕ} (b : Begun m codes qualities q ms ow held) (p : Pruned m codes bound held ms tr 0 ns ow2 ur end) where
-  pub swept-counts : Counts 2 m codes ns held
-  swept-counts = traced-counts (p .trailed .traced) (b .set)
+-- the state is in order: the counts of the set ones stay
+pub swept-in-order :
+    {m : ℕ} {codes bound qualities : List ℕ} {q : ℕ} {s t : List (List ℕ)} {end : ℕ} → Begun m codes qualities q (marks-of s) (owners-of s) (held-of s) → Pruned-state m codes bound s 0 t end → In-order m codes t end
+swept-in-order {m} {codes} {t = t} b w =
+    record {
+      rows = w .rest .rows;
+      living = w .pruned .trailed .living;
+      holds = subst (λ (held : List ℕ). Counts 2 m codes (marks-of t) held) (sym (w .rest .held)) (traced-counts (w .pruned .trailed .traced) (b .set));
+    }

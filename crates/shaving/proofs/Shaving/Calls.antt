@@ -11,16 +11,23 @@ use Rattle.fillings.specs.Tables.{All-below}
 use Rattle.fillings.specs.Steps.{Ready}
 use Rattle.fillings.proofs.ByCode.Context.{context-count}
 use Rattle.fillings.proofs.ByCode.BoundaryCodes.{context-fours-below}
-use Rattle.trail.specs.Counts.{Counts}
-use Rattle.trail.specs.State.{Coded, Living}
-use Rattle.propagation.specs.Prepared.{Prepared}
+use Rattle.trail.specs.State.{marks-of, owners-of, held-of, trail-of, Coded, In-order}
+use Rattle.pruning.specs.Pruned.{Prunable}
+use Rattle.propagation.specs.Prepared.{bound-of, Prepared}
 use Rattle.placing.specs.Placement.{Placement}
 use Rattle.trail.proofs.Coding.{context-coded}
 use Rattle.shaving.specs.Shaved.{As-it-was}
 use Rattle.shaving.proofs.Shaving.TakingBack.{alive-back, counts-back, living-back}
 
-module _ {L : Lists} {rows fours codes boundary bound : List ℕ} {m : ℕ} {corners piercing head next : List ℕ}
-    (p : Prepared L rows fours codes boundary bound m corners piercing head next) where
+-- a state that is as it was is in order
+pub in-order-back :
+    {m : ℕ} {codes : List ℕ} {old new : List (List ℕ)} {top : ℕ} →
+    As-it-was m (marks-of old) (owners-of old) (held-of old) (trail-of old) top (marks-of new) (owners-of new) (held-of new) (trail-of new) →
+    length new ≡ 4 → In-order m codes old top → In-order m codes new top
+in-order-back b r o = record { rows = r; living = living-back b (o .living); holds = counts-back b (o .holds) }
+
+module _ {L : Lists} {faces : List (List ℕ)} {fours codes : List ℕ} {m : ℕ} {corners piercing : List ℕ}
+    (p : Prepared L faces fours codes m corners piercing) where
   pub coded : Coded m codes
   coded = context-coded (p .context)
 
@@ -30,21 +37,20 @@ module _ {L : Lists} {rows fours codes boundary bound : List ℕ} {m : ℕ} {cor
   pub placement-placed :
       {t : ℕ} {ms tr ns ow held ur : List ℕ} {top end : ℕ} → Placement m codes fours corners piercing t ms tr top ns ow held ur end →
       Ready (job L) (fours-in m fours) ms → Placed (job L) (fours-in m fours) t ms ns
-  placement-placed q r = q .placed L bound (p .context) (p .corner-sets) (p .piercing-sets) r
+  placement-placed q r = q .placed L (bound-of faces) (p .context) (p .corner-sets) (p .piercing-sets) r
 
   pub can-place :
-      {t : ℕ} {ms ow tr held : List ℕ} {top : ℕ} → t < m → getD ms t 0 ≡ 1 → Living m codes ms ow tr top → Counts 2 m codes ms held →
-      Coded m codes × All-below 16 (m * 4) fours × (m ≤ length corners) × (m * 16 ≤ length piercing) × (t < m) × (getD ms t 0 ≡ 1) × Living m codes ms ow tr top × Counts 2 m codes ms held
-  can-place l a h g = (coded, context-fours-below (p .context), p .corner-sets .long, p .piercing-sets .long, l, a, h, g)
+      {t : ℕ} {state : List (List ℕ)} {top : ℕ} → t < m → getD (marks-of state) t 0 ≡ 1 → In-order m codes state top →
+      Coded m codes × All-below 16 (m * 4) fours × (m ≤ length corners) × (m * 16 ≤ length piercing) × (t < m) × (getD (marks-of state) t 0 ≡ 1) × In-order m codes state top
+  can-place l a o = (coded, context-fours-below (p .context), p .corner-sets .long, p .piercing-sets .long, l, a, o)
 
-  can-discard :
-      {k : ℕ} {ms ow tr held : List ℕ} {top : ℕ} → k < m → getD ms k 0 ≡ 1 → Living m codes ms ow tr top → Counts 2 m codes ms held →
-      Coded m codes × (length bound ≡ 4096) × (length held ≡ 4096) × (length head ≡ 4096) × (length next ≡ 7280) × (k < m) × (getD ms k 0 ≡ 1) × Living m codes ms ow tr top
-  can-discard l a h g = (coded, p .context .bound-long, g .long, p .head-long, p .next-long, l, a, h)
+  pub prunable : {state : List (List ℕ)} {top : ℕ} → In-order m codes state top → Prunable m codes (bound-of faces) state top
+  prunable o =
+      record { coded = coded; bound-long = p .context .bound-long; rows = o .rows; held-long = o .holds .long; living = o .living }
 
-  -- the same of a state that is as it was
-  pub can-discard-back :
-      {k : ℕ} {ms ow held tr : List ℕ} {top : ℕ} {ns ow2 held2 ur : List ℕ} → As-it-was m ms ow held tr top ns ow2 held2 ur → k < m → getD ms k 0 ≡ 1 → Living m codes ms ow tr top →
-      Counts 2 m codes ms held →
-      Coded m codes × (length bound ≡ 4096) × (length held2 ≡ 4096) × (length head ≡ 4096) × (length next ≡ 7280) × (k < m) × (getD ns k 0 ≡ 1) × Living m codes ns ow2 ur top
-  can-discard-back {k} b l a h g = can-discard l (alive-back k b a) (living-back b h) (counts-back b g)
+  -- tried and taken back: k can be dropped
+  pub can-discard :
+      {k : ℕ} {old new : List (List ℕ)} {top : ℕ} → In-order m codes old top → k < m → getD (marks-of old) k 0 ≡ 1 →
+      As-it-was m (marks-of old) (owners-of old) (held-of old) (trail-of old) top (marks-of new) (owners-of new) (held-of new) (trail-of new) →
+      length new ≡ 4 → Prunable m codes (bound-of faces) new top × (k < m) × (getD (marks-of new) k 0 ≡ 1)
+  can-discard {k} o l a b r = (prunable (in-order-back b r o), l, alive-back k b a)

@@ -10,10 +10,10 @@ use Rattle.laws.specs.Check.{job}
 use Rattle.fillings.specs.Marks.{Reduced}
 use Rattle.fillings.proofs.ByNumber.Numbers.{mark-within}
 use Rattle.fillings.proofs.ByNumber.Reduction.{reduced-trans}
-use Rattle.trail.specs.State.{Traced, nothing, dropped, Dropped}
+use Rattle.trail.specs.State.{marks-of, owners-of, held-of, trail-of, Held-same, Traced, nothing, dropped, Dropped}
 use Rattle.trail.proofs.Tracing.{traced-counts}
 use Rattle.trail.proofs.Trailing.{trailed-trans}
-use Rattle.pruning.specs.Pruned.{Pruned}
+use Rattle.pruning.specs.Pruned.{Pruned, Pruned-state}
 use Rattle.shaving.specs.Shaved.{Discarded}
 
 -- what is gone stays so
@@ -35,3 +35,14 @@ discarded {m} {ms = ms} {k = k} {ls = ls} a f g =
       reduced = λ L fours x n r.
           reduced-trans (subst (Reduced (job L) (fours-in m fours) ms) (sym (f .marks)) r) (g .reduced L fours x (traced-counts (f .trailed .traced) n));
     }
+
+-- the same from state to state
+pub discarded-state :
+    {m : ℕ} {codes bound : List ℕ} {old mid new : List (List ℕ)} {top k up end : ℕ} → getD (marks-of old) k 0 ≡ 1 →
+    Dropped m codes (marks-of old) (trail-of old) top k (marks-of mid) (owners-of mid) (trail-of mid) up → Held-same old mid → Pruned-state m codes bound mid up new end →
+    Discarded m codes bound (held-of old) (marks-of old) (trail-of old) top k (marks-of new) (owners-of new) (trail-of new) end × Held-same old new
+discarded-state {m} {codes} {bound} {old} {mid} {new} {up = up} {end} a f h g = (
+  discarded a f
+      (subst (λ (hs : List ℕ). Pruned m codes bound hs (marks-of mid) (trail-of mid) up (marks-of new) (owners-of new) (trail-of new) end) (h .held) (g .pruned)),
+  record { rows = g .rest .rows; held = g .rest .held ∙ h .held },
+)

@@ -2,7 +2,8 @@
 use mathlib.Core.Path.{_≡_, refl, sym, subst, _∙_}
 use mathlib.Core.Bool.{Bool, true}
 use mathlib.Core.List.{List}
-use Prim.Native.Nat.{ℕ, _<_}
+use Prim.Native.Nat.{ℕ, _+_, _≤_, _<_}
+use native.Mathlib.Omega.{arith}
 use lib.ListN.{length, getD, set}
 use Rattle.geometry.specs.declared.tetrahedron.Four.{Four}
 use Rattle.laws.specs.Laws.{Job, fours-in}
@@ -15,7 +16,7 @@ use Rattle.fillings.proofs.ByNumber.Reduction.{reduced-drop, reduced-refl, redu
 use Rattle.fillings.proofs.ByNumber.Setting.{placed-fills}
 use Rattle.fillings.proofs.ByCode.Context.{context-count}
 use Rattle.trail.specs.Counts.{Counts}
-use Rattle.trail.specs.State.{Living}
+use Rattle.trail.specs.State.{marks-of, owners-of, held-of, trail-of, Living, In-order, Held-same}
 use Rattle.trail.proofs.Tracing.{traced-counts}
 use Rattle.trail.proofs.Trailing.{trailed-none, trailed-trans}
 use Rattle.shaving.specs.Shaved.{Discarded, As-it-was, Refuted, Shaved}
@@ -60,7 +61,33 @@ shaved-refuted {L} {m} {fours} {codes} {ns = ns} {ls = ls} {k = k} x l a g e r d
       set = b .set;
     }
 
-pub shaved-moved :
-    {j : Job} {cs : List Four} {m : ℕ} {codes ms held tr : List ℕ} {top : ℕ} {ns ow held1 ur ls ow2 held2 vr : List ℕ} {end last : ℕ} → ls ≡ ns → ow2 ≡ ow → held2 ≡ held1 → vr ≡ ur → last ≡ end →
-    Shaved j cs m codes ms held tr top ns ow held1 ur end → Shaved j cs m codes ms held tr top ls ow2 held2 vr last
-shaved-moved a b c d e s = rw a (rw b (rw c (rw d (rw e s))))
+-- ---- the same from state to state
+pub shaved-in-order :
+    {j : Job} {cs : List Four} {m : ℕ} {codes : List ℕ} {old new : List (List ℕ)} {top end : ℕ} → In-order m codes old top → length new ≡ 4 →
+    Shaved j cs m codes (marks-of old) (held-of old) (trail-of old) top (marks-of new) (owners-of new) (held-of new) (trail-of new) end → In-order m codes new end
+shaved-in-order o r s = record { rows = r; living = s .trailed .living; holds = shaved-counts (o .holds) s }
+
+pub shaved-tried :
+    {j : Job} {cs : List Four} {m : ℕ} {codes : List ℕ} (old now tried : List (List ℕ)) {top end : ℕ} →
+    As-it-was m (marks-of now) (owners-of now) (held-of now) (trail-of now) end (marks-of tried) (owners-of tried) (held-of tried) (trail-of tried) → length tried ≡ 4 →
+    Shaved j cs m codes (marks-of old) (held-of old) (trail-of old) top (marks-of now) (owners-of now) (held-of now) (trail-of now) end →
+    (length tried ≡ 4) × Shaved j cs m codes (marks-of old) (held-of old) (trail-of old) top (marks-of tried) (owners-of tried) (held-of tried) (trail-of tried) end
+shaved-tried old now tried b r s = (r, shaved-back b s)
+
+pub shaved-discarded :
+    {L : Lists} {m : ℕ} {fours codes bound : List ℕ} (old now : List (List ℕ)) {tried new : List (List ℕ)} {top end k : ℕ} {found : Bool} {last : ℕ} →
+    Context L fours codes bound m → k < m → getD (marks-of now) k 0 ≡ 1 → Counts 2 m codes (marks-of old) (held-of old) → found ≡ true →
+    Refuted (job L) (fours-in m fours) m k (marks-of now) (owners-of now) (held-of now) (trail-of now) end found (marks-of tried) (owners-of tried) (held-of tried) (trail-of tried) →
+    Discarded m codes bound (held-of tried) (marks-of tried) (trail-of tried) end k (marks-of new) (owners-of new) (trail-of new) last → Held-same tried new →
+    Shaved (job L) (fours-in m fours) m codes (marks-of old) (held-of old) (trail-of old) top (marks-of now) (owners-of now) (held-of now) (trail-of now) end →
+    (length new ≡ 4) × Shaved (job L) (fours-in m fours) m codes (marks-of old) (held-of old) (trail-of old) top (marks-of new) (owners-of new) (held-of new) (trail-of new) last
+shaved-discarded old now x l a g e r d h s =
+    let t = shaved-refuted x l a g e r d s in
+    (h .rows, record { trailed = t .trailed; reduced = t .reduced; set = h .held ∙ t .set })
+
+-- one step of the loop, whose state has the new one's value
+pub shaved-step :
+    {j : Job} {cs : List Four} {m : ℕ} {codes : List ℕ} (old : List (List ℕ)) {new moved : List (List ℕ)} {top end last k : ℕ} → k < m → moved ≡ new → last ≡ end →
+    (length new ≡ 4) × Shaved j cs m codes (marks-of old) (held-of old) (trail-of old) top (marks-of new) (owners-of new) (held-of new) (trail-of new) end →
+    (k + 1 ≤ m) × (length moved ≡ 4) × Shaved j cs m codes (marks-of old) (held-of old) (trail-of old) top (marks-of moved) (owners-of moved) (held-of moved) (trail-of moved) last
+shaved-step old l a e s = rw a (rw e (omega arith, s .0, s .1))

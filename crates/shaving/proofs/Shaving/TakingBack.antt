@@ -35,8 +35,8 @@ module _ {m : ℕ} {codes fours corners piercing : List ℕ} {t : ℕ} {ms tr : 
 
   -- what fell is alive again: t can be set back
   pub undone-set :
-      {held2 xs ow3 : List ℕ} → getD ms t 0 ≡ 1 → length ms ≡ 1820 → held2 ≡ held1 → Undone m codes vr top last ls xs ow3 →
-      (getD xs t 0 ≡ 2) × (length xs ≡ 1820) × Counts 1 m codes xs ow3 × Counts 2 m codes xs held2
+      {held2 xs ow3 : List ℕ} → getD ms t 0 ≡ 1 → length ms ≡ 4096 → held2 ≡ held1 → Undone m codes vr top last ls xs ow3 →
+      (getD xs t 0 ≡ 2) × (length xs ≡ 4096) × Counts 1 m codes xs ow3 × Counts 2 m codes xs held2
   undone-set {held2} {xs} {ow3} a l q u =
       let e : xs ≡ set ms t 2 = u .back (set ms t 2) setting-traced in (
         ap (λ (ys : List ℕ). getD ys t 0) e ∙ getD-set-same ms t 2 0 (mark-within 0 ms t a),

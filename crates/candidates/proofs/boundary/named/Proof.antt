@@ -26,6 +26,9 @@ shared-slice-read-c c = omega arith
 cast-c : tie.Need-cast-c Inv-loop μ-loop
 cast-c c = omega (arith, c .shared-slice-known .given (c .before .before .loop .i))
 
+mul-f : tie.Need-mul-f Inv-loop μ-loop
+mul-f c = omega (arith, c .before .before .before .pre .each (c .before .before .loop .i) (omega arith))
+
 element-write-f : tie.Need-element-write-f Inv-loop μ-loop
 element-write-f c = c .before .before .before .pre .each (c .before .before .loop .i) (omega arith)
 
@@ -58,6 +61,7 @@ named-spec =
     mul-c
     shared-slice-read-c
     cast-c
+    mul-f
     element-write-f
     add-i
     loop-less

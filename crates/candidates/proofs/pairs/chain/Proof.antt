@@ -1,73 +1,86 @@
--- `candidates::pairs::chain` meets its contract. The loop's invariant: the lengths. Assumes nothing.
-use mathlib.Core.Path.{_≡_, sym, _∙_}
-use Prim.Native.Nat.{_*_, _-_, _≤_}
+-- `candidates::pairs::chain` reads and writes inside its rows. The loop's invariant: how far it has come. Assumes nothing.
+use Prim.Native.Nat.{_*_, _-_, _<_, _≤_}
 use native.Mathlib.Omega.{arith}
-use lib.ListN.{length, length-set}
+use lib.ListN.{getD}
 use Rattle.candidates.proofs.pairs.chain.Statement.{statement}
 use Rattle.candidates.proofs.pairs.chain.Tie as tie
 
 abbrev Inv-loop : tie.InvT-loop
-Inv-loop codes m head₀ next₀ j₀ j-end head next j = (j ≤ m * 4) × (length head ≡ 4096) × (length next ≡ 7280)
+Inv-loop codes m links₀ j₀ j-end links j = j ≤ m * 4
 
 abbrev μ-loop : tie.MeasureT-loop
-μ-loop codes m head₀ next₀ j₀ j-end head next j = m * 4 - j
+μ-loop codes m links₀ j₀ j-end links j = m * 4 - j
+
+abbrev start : tie.In-loop Inv-loop μ-loop → tie.Start Inv-loop μ-loop
+start c = c .before .before .before .before .before
+
+-- the code of a face is below 4096
+code-small :
+    (c : tie.In-loop Inv-loop μ-loop) → getD (start c .args .codes .now) (c .before .loop .j) 0 < 4096
+code-small c = start c .pre .below .each (c .before .loop .j) (c .loop-test .taken)
+
+index-1-clear-heads : tie.Need-index-1-clear-heads Inv-loop μ-loop
+index-1-clear-heads c = omega arith
 
 clear-heads-requires : tie.Need-clear-heads-requires Inv-loop μ-loop
-clear-heads-requires c κs = c .before .before .before .before .pre .1
+clear-heads-requires c κs = tt
 
 mul-j-end : tie.Need-mul-j-end Inv-loop μ-loop
-mul-j-end c = let s = c .before .before .before .before .before .before .before in omega (arith, s .pre .0 .few)
+mul-j-end c = omega (arith, c .before .before .before .pre .few)
 
 loop-holds : tie.Need-loop-holds Inv-loop μ-loop
-loop-holds c = (omega arith, c .before .before .clear-heads .ensures, c .before .before .before .before .before .before .before .pre .2)
+loop-holds c = omega arith
 
 mul-c : tie.Need-mul-c Inv-loop μ-loop
-mul-c c = let s = c .before .before .before .before .before .before .before .before .before in omega (arith, s .pre .0 .few)
+mul-c c = omega (arith, start c .pre .few)
 
 shared-slice-read-c : tie.Need-shared-slice-read-c Inv-loop μ-loop
-shared-slice-read-c c = let s = c .before .before .before .before .before .before .before .before .before .before in omega (arith, s .pre .0 .below .long)
+shared-slice-read-c c = omega (arith, start (c .before) .pre .below .long)
 
 cast-c : tie.Need-cast-c Inv-loop μ-loop
-cast-c c = omega (arith, c .shared-slice-known2 .given (c .before .before .loop .j))
+cast-c c = omega (arith, code-small (c .before))
 
-mul-next : tie.Need-mul-next Inv-loop μ-loop
-mul-next c = let s = c .before .before .before .before .before .before .before .before .before .before in omega (arith, s .pre .0 .below .each (c .before .before .loop .j) (omega arith))
+mul-links : tie.Need-mul-links Inv-loop μ-loop
+mul-links c = omega (arith, code-small (c .before))
 
-slice-read-next : tie.Need-slice-read-next Inv-loop μ-loop
-slice-read-next c = let s = c .before .before .before .before .before .before .before .before .before .before .before in let i = c .before .before .before .loop .inv in omega (arith, s .pre .0 .below .each (c .before .before .before .loop .j) (omega arith), i .1)
+index-1-links : tie.Need-index-1-links Inv-loop μ-loop
+index-1-links c = omega arith
 
-mul-next-2 : tie.Need-mul-next-2 Inv-loop μ-loop
-mul-next-2 c = let s = c .before .before .before .before .before .before .before .before .before .before .before in omega (arith, s .pre .0 .few)
+index-2-links : tie.Need-index-2-links Inv-loop μ-loop
+index-2-links c = omega (arith, code-small (c .before))
 
-slice-write-next : tie.Need-slice-write-next Inv-loop μ-loop
-slice-write-next c = let s = c .before .before .before .before .before .before .before .before .before .before .before in let i = c .before .before .before .loop .inv in omega (arith, s .pre .0 .few, i .2)
+mul-links-2 : tie.Need-mul-links-2 Inv-loop μ-loop
+mul-links-2 c = omega (arith, start (c .before .before) .pre .few)
 
-cast-head : tie.Need-cast-head Inv-loop μ-loop
-cast-head c = let s = c .before .before .before .before .before .before .before .before .before .before .before in omega (arith, s .pre .0 .few)
+index-1-links-2 : tie.Need-index-1-links-2 Inv-loop μ-loop
+index-1-links-2 c = omega arith
 
-mul-head : tie.Need-mul-head Inv-loop μ-loop
-mul-head c = let s = c .before .before .before .before .before .before .before .before .before .before .before in omega (arith, s .pre .0 .below .each (c .before .before .before .loop .j) (omega arith))
+index-2-links-2 : tie.Need-index-2-links-2 Inv-loop μ-loop
+index-2-links-2 c = omega (arith, start (c .before .before) .pre .few)
 
-slice-write-head : tie.Need-slice-write-head Inv-loop μ-loop
-slice-write-head c = let s = c .before .before .before .before .before .before .before .before .before .before .before in let i = c .before .before .before .loop .inv in omega (arith, s .pre .0 .below .each (c .before .before .before .loop .j) (omega arith), i .1)
+cast-links : tie.Need-cast-links Inv-loop μ-loop
+cast-links c = omega (arith, start (c .before .before) .pre .few)
+
+mul-links-3 : tie.Need-mul-links-3 Inv-loop μ-loop
+mul-links-3 c = omega (arith, code-small (c .before .before))
+
+index-1-links-3 : tie.Need-index-1-links-3 Inv-loop μ-loop
+index-1-links-3 c = omega arith
+
+index-2-links-3 : tie.Need-index-2-links-3 Inv-loop μ-loop
+index-2-links-3 c = omega (arith, code-small (c .before .before))
 
 add-j : tie.Need-add-j Inv-loop μ-loop
-add-j c = let s = c .before .before .before .before .before .before .before .before .before .before .before in omega (arith, s .pre .0 .few)
+add-j c = omega (arith, start (c .before .before) .pre .few)
 
 loop-less : tie.Need-loop-less Inv-loop μ-loop
 loop-less c = omega arith
 
 loop-again : tie.Need-loop-again Inv-loop μ-loop
-loop-again c = let i = c .before .before .before .loop .inv in (omega arith, simp length-set (i .1), simp length-set (i .2))
-
-same-length : tie.Need-same-length Inv-loop μ-loop
-same-length c = c .before .loop .inv .1 ∙ sym (c .before .before .before .before .before .before .before .before .before .pre .1)
-
-same-length-2 : tie.Need-same-length-2 Inv-loop μ-loop
-same-length-2 c = c .before .loop .inv .2 ∙ sym (c .before .before .before .before .before .before .before .before .before .pre .2)
+loop-again c = omega arith
 
 returns : tie.Need-returns Inv-loop μ-loop
-returns c = (c .before .loop .inv .1, c .before .loop .inv .2)
+returns c = tt
 
 pub chain-spec : {M : Type 1} → statement M
 chain-spec =
@@ -75,22 +88,24 @@ chain-spec =
     (tie.spec
     Inv-loop
     μ-loop
+    index-1-clear-heads
     clear-heads-requires
     mul-j-end
     loop-holds
     mul-c
     shared-slice-read-c
     cast-c
-    mul-next
-    slice-read-next
-    mul-next-2
-    slice-write-next
-    cast-head
-    mul-head
-    slice-write-head
+    mul-links
+    index-1-links
+    index-2-links
+    mul-links-2
+    index-1-links-2
+    index-2-links-2
+    cast-links
+    mul-links-3
+    index-1-links-3
+    index-2-links-3
     add-j
     loop-less
     loop-again
-    same-length
-    same-length-2
     returns)

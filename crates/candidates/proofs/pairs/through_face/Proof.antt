@@ -1,8 +1,8 @@
 -- `candidates::pairs::through_face` meets its contract: the point lies behind the face, and the rows say the rest. Assumes nothing.
 use mathlib.Core.Path.{sym, ap, _∙_}
 use Prim.Native.Nat.{ℕ, _/_, _%_}
+use native.Mathlib.Omega.{arith}
 use borrow.Author.Tests.{not-false}
-use borrow.Author.Needs.{needs}
 use lib.ListN.{getD}
 use Rattle.bits.specs.Bit.{bit}
 use Rattle.bits.proofs.Digits.{bit-zero}
@@ -12,37 +12,37 @@ use Rattle.candidates.proofs.pairs.through_face.Statement.{statement}
 use Rattle.candidates.proofs.pairs.through_face.Tie as tie
 
 mul-behind : tie.Need-mul-behind
-mul-behind c = search needs
+mul-behind c = omega (arith, c .before .pre .1)
 
 shared-slice-read-behind : tie.Need-shared-slice-read-behind
-shared-slice-read-behind c = search needs
+shared-slice-read-behind c = omega (arith, c .before .before .pre .0, c .before .before .pre .1)
 
 has-requires : tie.Need-has-requires
-has-requires c κs = search needs
+has-requires c κs = c .before .before .pre .2
 
 returns : tie.Need-returns
 returns c = λ ps R p e b h. contradiction h (bit-zero b)
 
 row-requires : tie.Need-row-requires
-row-requires c κs = search needs
+row-requires c κs = let s = c .before .before .before .before in (s .pre .0, omega (arith, s .pre .1), omega arith, omega arith)
 
 row-requires-2 : tie.Need-row-requires-2
-row-requires-2 c κs = search needs
+row-requires-2 c κs = let s = c .before .before .before .before .before in (s .pre .0, omega (arith, s .pre .1), s .pre .2, omega arith)
 
 common-requires : tie.Need-common-requires
-common-requires c κs = search needs
+common-requires c κs = tt
 
 row-requires-3 : tie.Need-row-requires-3
-row-requires-3 c κs = search needs
+row-requires-3 c κs = let s = c .before .before .before .before .before .before .before in (s .pre .0, omega arith, s .pre .2, omega arith)
 
 row-requires-4 : tie.Need-row-requires-4
-row-requires-4 c κs = search needs
+row-requires-4 c κs = let s = c .before .before .before .before .before .before .before .before in (s .pre .0, omega arith, s .pre .2, omega (arith, s .pre .1))
 
 common-requires-2 : tie.Need-common-requires-2
-common-requires-2 c κs = search needs
+common-requires-2 c κs = tt
 
 common-requires-3 : tie.Need-common-requires-3
-common-requires-3 c κs = search needs
+common-requires-3 c κs = tt
 
 returns-2 : tie.Need-returns-2
 returns-2 c =

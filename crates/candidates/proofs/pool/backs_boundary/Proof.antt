@@ -1,89 +1,77 @@
--- `candidates::pool::backs_boundary` meets its contract: one flag after the other. Assumes nothing.
-use borrow.Author.Needs.{needs}
-use Rattle.fillings.proofs.ByCode.BoundaryFlags.{first-up, second-up, third-up, fourth-decides}
+-- `candidates::pool::backs_boundary` meets its contract: one face after the other. Assumes nothing.
+use mathlib.Core.Bool.{Bool}
+use lib.Dec.{ltb}
+use lib.ListN.{getD}
+use Prim.Native.Nat.{ℕ}
+use Rattle.laws.specs.inner.FaceCodes.{flip-code}
+use Rattle.candidates.proofs.Pooling.FourTests.{first-holds, second-holds, third-holds, fourth-decides}
 use Rattle.candidates.proofs.pool.backs_boundary.Statement.{statement}
 use Rattle.candidates.proofs.pool.backs_boundary.Tie as tie
 
-cast-flip : tie.Need-cast-flip
-cast-flip c = search needs
+-- the flag of the reverse of a face
+abbrev flag : tie.Start → ℕ → Bool
+flag s c = ltb 0 (getD (s .args .bound .now) (flip-code c) 0)
 
-flip-requires : tie.Need-flip-requires
-flip-requires c κs = search needs
+abbrev start : tie.After-backs → tie.Start
+start c = c .before .before
 
-shared-slice-read-if1 : tie.Need-shared-slice-read-if1
-shared-slice-read-if1 c = search needs
+backs-requires : tie.Need-backs-requires
+backs-requires c κs = (c .before .pre .0, c .before .pre .1 .0)
 
 returns : tie.Need-returns
 returns c =
-    let s = c .before .before .before .before .before .args in
-    first-up (s .bound .now) (s .c .a) (s .c .b) (s .c .c) (s .c .d) (c .before .before .flip .ensures .0) (c .if1 .taken)
+    let p = c .before in
+    let s = start p in
+    let f = s .args .c in
+    first-holds (flag s (f .a)) (flag s (f .b)) (flag s (f .c)) (flag s (f .d)) (p .backs .ensures) (c .if1 .taken)
 
-cast-flip-2 : tie.Need-cast-flip-2
-cast-flip-2 c = search needs
-
-flip-requires-2 : tie.Need-flip-requires-2
-flip-requires-2 c κs = search needs
-
-shared-slice-read-if2 : tie.Need-shared-slice-read-if2
-shared-slice-read-if2 c = search needs
+backs-requires-2 : tie.Need-backs-requires-2
+backs-requires-2 c κs = let s = start (c .before) in (s .pre .0, s .pre .1 .1)
 
 returns-2 : tie.Need-returns-2
 returns-2 c =
-    let l = c .before .before .before .before in
-    let s = l .before .before .before .before .before .args in
-    second-up (s .bound .now) (s .c .a) (s .c .b) (s .c .c) (s .c .d) (l .before .before .flip .ensures .0) (l .if1 .left) (c .before .before .flip2 .ensures .0) (c .if2 .taken)
+    let l = c .before .before in
+    let p = l .before in
+    let s = start p in
+    let f = s .args .c in
+    second-holds (flag s (f .a)) (flag s (f .b)) (flag s (f .c)) (flag s (f .d)) (p .backs .ensures) (l .if1 .left) (c .before .backs2 .ensures) (c .if2 .taken)
 
-cast-flip-3 : tie.Need-cast-flip-3
-cast-flip-3 c = search needs
-
-flip-requires-3 : tie.Need-flip-requires-3
-flip-requires-3 c κs = search needs
-
-shared-slice-read-if3 : tie.Need-shared-slice-read-if3
-shared-slice-read-if3 c = search needs
+backs-requires-3 : tie.Need-backs-requires-3
+backs-requires-3 c κs = let s = start (c .before .before .before) in (s .pre .0, s .pre .1 .2)
 
 returns-3 : tie.Need-returns-3
 returns-3 c =
-    let k = c .before .before .before .before in
-    let l = k .before .before .before .before in
-    let s = l .before .before .before .before .before .args in
-    third-up (s .bound .now) (s .c .a) (s .c .b) (s .c .c) (s .c .d) (l .before .before .flip .ensures .0) (l .if1 .left) (k .before .before .flip2 .ensures .0) (k .if2 .left) (c .before .before .flip3 .ensures .0) (c .if3 .taken)
+    let k = c .before .before in
+    let l = k .before .before in
+    let p = l .before in
+    let s = start p in
+    let f = s .args .c in
+    third-holds (flag s (f .a)) (flag s (f .b)) (flag s (f .c)) (flag s (f .d)) (p .backs .ensures) (l .if1 .left) (k .before .backs2 .ensures) (k .if2 .left)
+    (c .before .backs3 .ensures) (c .if3 .taken)
 
-cast-flip-4 : tie.Need-cast-flip-4
-cast-flip-4 c = search needs
-
-flip-requires-4 : tie.Need-flip-requires-4
-flip-requires-4 c κs = search needs
-
-shared-slice-read-result : tie.Need-shared-slice-read-result
-shared-slice-read-result c = search needs
+backs-requires-4 : tie.Need-backs-requires-4
+backs-requires-4 c κs = let s = start (c .before .before .before .before .before) in (s .pre .0, s .pre .1 .3)
 
 returns-4 : tie.Need-returns-4
 returns-4 c =
-    let h = c .before .before .before in
-    let k = h .before .before .before .before in
-    let l = k .before .before .before .before in
-    let s = l .before .before .before .before .before .args in
-    fourth-decides (s .bound .now) (s .c .a) (s .c .b) (s .c .c) (s .c .d) (l .before .before .flip .ensures .0) (l .if1 .left) (k .before .before .flip2 .ensures .0) (k .if2 .left) (h .before .before .flip3 .ensures .0) (h .if3 .left)
-    (c .before .flip4 .ensures .0)
+    let h = c .before in
+    let k = h .before .before in
+    let l = k .before .before in
+    let p = l .before in
+    let s = start p in
+    let f = s .args .c in
+    fourth-decides (flag s (f .a)) (flag s (f .b)) (flag s (f .c)) (flag s (f .d)) (p .backs .ensures) (l .if1 .left) (k .before .backs2 .ensures) (k .if2 .left)
+    (h .before .backs3 .ensures) (h .if3 .left) (c .backs4 .ensures)
 
 pub backs-boundary-spec : {M : Type 1} → statement M
 backs-boundary-spec =
     tie.close
     (tie.spec
-    cast-flip
-    flip-requires
-    shared-slice-read-if1
+    backs-requires
     returns
-    cast-flip-2
-    flip-requires-2
-    shared-slice-read-if2
+    backs-requires-2
     returns-2
-    cast-flip-3
-    flip-requires-3
-    shared-slice-read-if3
+    backs-requires-3
     returns-3
-    cast-flip-4
-    flip-requires-4
-    shared-slice-read-result
+    backs-requires-4
     returns-4)

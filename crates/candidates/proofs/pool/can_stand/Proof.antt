@@ -2,7 +2,6 @@
 use mathlib.Core.Path.{sym, ap, _∙_}
 use mathlib.Core.Bool.{not}
 use borrow.Author.Tests.{not-true, not-false}
-use borrow.Author.Needs.{needs}
 use Rattle.geometry.specs.Space.{points-in}
 use Rattle.laws.specs.Lists.{job-lists}
 use Rattle.signs.proofs.Corners.{ordered-distinct}
@@ -38,7 +37,7 @@ face-codes-requires : tie.Need-face-codes-requires
 face-codes-requires c κs = c .oriented .ensures .1
 
 backs-boundary-requires : tie.Need-backs-boundary-requires
-backs-boundary-requires c κs = search needs
+backs-boundary-requires c κs = (c .before .before .before .before .before .before .before .before .pre .3, c .face-codes .ensures .4)
 
 returns-2 : tie.Need-returns-2
 returns-2 c =

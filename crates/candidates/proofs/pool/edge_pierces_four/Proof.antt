@@ -1,5 +1,4 @@
 -- `candidates::pool::edge_pierces_four` meets its contract: one face after the other. Assumes nothing.
-use borrow.Author.Needs.{needs}
 use Rattle.signs.proofs.Corners.{proper-abc, proper-abd, proper-bcd}
 use Rattle.fillings.proofs.Piercing.Piercing.{pierces-abc, pierces-abd, pierces-acd, last-face-decides}
 use Rattle.candidates.proofs.Pooling.Corners.{proper-acd}
@@ -7,7 +6,7 @@ use Rattle.candidates.proofs.pool.edge_pierces_four.Statement.{statemen
 use Rattle.candidates.proofs.pool.edge_pierces_four.Tie as tie
 
 edge-pierces-requires : tie.Need-edge-pierces-requires
-edge-pierces-requires c κs = search needs
+edge-pierces-requires c κs = let s = c .before in (s .pre .0, s .pre .1, s .pre .2, s .pre .3 .0, s .pre .3 .1, s .pre .3 .2)
 
 returns : tie.Need-returns
 returns c =
@@ -15,7 +14,7 @@ returns c =
     λ ps R u m n. pierces-abc ps (s .a) (s .b) (s .f) (c .before .edge-pierces .ensures ps R (proper-abc u) m n) (c .if1 .taken)
 
 edge-pierces-requires-2 : tie.Need-edge-pierces-requires-2
-edge-pierces-requires-2 c κs = search needs
+edge-pierces-requires-2 c κs = let s = c .before .before .before in (s .pre .0, s .pre .1, s .pre .2, s .pre .3 .0, s .pre .3 .1, s .pre .3 .3)
 
 returns-2 : tie.Need-returns-2
 returns-2 c =
@@ -25,7 +24,7 @@ returns-2 c =
     (c .before .edge-pierces2 .ensures ps R (proper-abd u) m n) (c .if2 .taken)
 
 edge-pierces-requires-3 : tie.Need-edge-pierces-requires-3
-edge-pierces-requires-3 c κs = search needs
+edge-pierces-requires-3 c κs = let s = c .before .before .before .before .before in (s .pre .0, s .pre .1, s .pre .2, s .pre .3 .0, s .pre .3 .2, s .pre .3 .3)
 
 returns-3 : tie.Need-returns-3
 returns-3 c =
@@ -36,7 +35,7 @@ returns-3 c =
     (k .before .edge-pierces2 .ensures ps R (proper-abd u) m n) (k .if2 .left) (c .before .edge-pierces3 .ensures ps R (proper-acd u) m n) (c .if3 .taken)
 
 edge-pierces-requires-4 : tie.Need-edge-pierces-requires-4
-edge-pierces-requires-4 c κs = search needs
+edge-pierces-requires-4 c κs = let s = c .before .before .before .before .before .before .before in (s .pre .0, s .pre .1, s .pre .2, s .pre .3 .1, s .pre .3 .2, s .pre .3 .3)
 
 returns-4 : tie.Need-returns-4
 returns-4 c =

@@ -1,15 +1,19 @@
 -- `candidates::pool::gather` meets its contract. The loop's invariant: the tables hold the candidates before f, and `at` is its place. Its measure falls as f, read as digits, rises. Assumes nothing.
-use mathlib.Core.Path.{_≡_, sym, _∙_}
+use mathlib.Core.Path.{_≡_, sym}
+use mathlib.Core.Logic.{inl, inr}
 use Prim.Native.Nat.{_-_, _/_, _≤_}
 use native.Mathlib.Omega.{arith}
 use lib.ListN.{length}
 use Rattle.geometry.specs.Space.{points-in}
 use Rattle.laws.specs.Laws.{place}
 use Rattle.laws.specs.Check.{job}
-use Rattle.laws.specs.Lists.{job-lists}
+use Rattle.laws.specs.Lists.{Lists, job-lists}
+use Rattle.laws.specs.inner.NextFour.{Ordered}
 use Rattle.laws.proofs.Order.NextFour.{Staged, staged-start, staged-within, staged-next, rank, rank-bounded, rank-rises}
-use Rattle.fillings.proofs.Pooling.Gathering.{measured, Gathering, gathering-start, room-for, gathering-step, gathering-end}
+use Rattle.signs.proofs.Corners.{ordered-distinct}
+use Rattle.fillings.proofs.Pooling.Gathering.{Measured, measured, stage-small, Gathering, gathering-start, room-for, gathering-step, gathering-end}
 use Rattle.fillings.proofs.ByNumber.CoverageByNumber.{points-count}
+use Rattle.candidates.proofs.Pooling.Graded.{considered-above, considered-zero}
 use Rattle.candidates.proofs.Pooling.RunningPlace.{first-place, next-place, place-inside}
 use Rattle.candidates.proofs.pool.gather.Statement.{statement}
 use Rattle.candidates.proofs.pool.gather.Tie as tie
@@ -22,90 +26,95 @@ abbrev μ-loop : tie.MeasureT-loop
 μ-loop points triangles kept table rows bound q fours₀ codes₀ qualities₀ n f₀ at₀ k₀ fours codes qualities f at k =
     160000 - rank f
 
+abbrev lists : tie.Start Inv-loop μ-loop → Lists
+lists s = let a = s .args in job-lists (a .points .now) (a .triangles .now) (a .kept .now) (a .table .now)
+
+abbrev start : tie.Then1 Inv-loop μ-loop → tie.Start Inv-loop μ-loop
+start t = t .before .before .before .before .before .before .before
+
+points-and-table : (s : tie.Start Inv-loop μ-loop) → Measured (s .args .points .now) (s .args .table .now)
+points-and-table s = measured (lists s) (s .pre .0)
+
+in-order : (t : tie.Then1 Inv-loop μ-loop) → Ordered (length (start t .args .points .now) / 3) (t .before .before .loop .f)
+in-order t = staged-within (t .before .before .loop .inv .1) (t .if1 .taken)
+
+few-points : (t : tie.Then1 Inv-loop μ-loop) → length (start t .args .points .now) / 3 ≤ 16
+few-points t = omega (arith, points-and-table (start t) .most, t .before .before .loop .inv .0)
+
 loop-holds : tie.Need-loop-holds Inv-loop μ-loop
 loop-holds c =
-    let s = c .before .before .before .before .before .before .before in
+    let s = c .before .before .before .before in
     let a = s .args in
-    let e = sym (points-count (a .points .now)) in
-    let m = measured (job-lists (a .points .now) (a .triangles .now) (a .kept .now) (a .table .now)) (s .pre .0) in (
+    let e = sym (points-count (a .points .now)) in (
       e,
-      rw e (staged-start (length (points-in (a .points .now))) (m .least)),
-      gathering-start (job (job-lists (a .points .now) (a .triangles .now) (a .kept .now) (a .table .now))) (a .q) (s .pre .5) (s .pre .6) (s .pre .7),
+      rw e (staged-start (length (points-in (a .points .now))) (points-and-table s .least)),
+      gathering-start (job (lists s)) (a .q) (s .pre .5) (s .pre .6) (s .pre .7),
       first-place (length (a .points .now) / 3),
     )
 
-consider-four-requires : tie.Need-consider-four-requires Inv-loop μ-loop
-consider-four-requires c κs =
-    let s = c .before .before .before .before .before .before .before .before .before .before .before .before .before in
-    let a = s .args in
-    let i = c .before .before .before .before .before .loop .inv in
-    let m = measured (job-lists (a .points .now) (a .triangles .now) (a .kept .now) (a .table .now)) (s .pre .0) in (
-      s .pre .0,
+grade-requires : tie.Need-grade-requires Inv-loop μ-loop
+grade-requires c κs =
+    let s = start c in
+    let i = c .before .before .loop .inv in (s .pre .0, s .pre .1, s .pre .2, s .pre .3, i .0, in-order c, i .3, s .pre .4)
+
+file-requires : tie.Need-file-requires Inv-loop μ-loop
+file-requires c κs =
+    let t = c .before .before .before .before .before in
+    let s = start t in
+    let i = t .before .before .loop .inv in
+    let m = points-and-table s in
+    let g : Ordered (length (points-in (s .args .points .now))) (t .before .before .loop .f) = rw (i .0) at (in-order t) in
+    let y = c .before .before .before .before .grade .ensures .some (c .before .before .before .if2 .taken) .0 in (
       s .pre .1,
-      s .pre .2,
-      s .pre .3,
-      i .0,
-      staged-within (i .1) (c .before .before .before .if1 .taken),
-      i .3,
-      s .pre .4,
+      ordered-distinct g,
+      stage-small (m .most) g,
+      room-for (lists s) (m .most) (i .2) y,
       i .2 .fours-long,
       i .2 .codes-long,
       i .2 .qualities-long,
-      room-for (job-lists (a .points .now) (a .triangles .now) (a .kept .now) (a .table .now)) (m .most) (i .2),
     )
 
+add-k : tie.Need-add-k Inv-loop μ-loop
+add-k c = omega (arith, c .before .before .before .before .before .before .before .before .loop .inv .2 .few)
+
 next-four-requires : tie.Need-next-four-requires Inv-loop μ-loop
-next-four-requires c κs =
-    let s = c .before .before .before .before .before .before .before .before .before .before .before .before .before .before .before .before .before .before .before .before in
-    let a = s .args in
-    let i = c .before .before .before .before .before .before .before .before .before .before .before .before .loop .inv in
-    let m = measured (job-lists (a .points .now) (a .triangles .now) (a .kept .now) (a .table .now)) (s .pre .0) in (omega (arith, m .most, i .0), staged-within (i .1) (c .before .before .before .before .before .before .before .before .before .before .if1 .taken))
+next-four-requires c κs = let t = c .before .before in (few-points t, in-order t)
 
 add-at : tie.Need-add-at Inv-loop μ-loop
 add-at c =
-    let s = c .before .before .before .before .before .before .before .before .before .before .before .before .before .before .before .before .before .before .before .before .before in
-    let a = s .args in
-    let i = c .before .before .before .before .before .before .before .before .before .before .before .before .before .loop .inv in
-    let p = place-inside (job-lists (a .points .now) (a .triangles .now) (a .kept .now) (a .table .now)) (s .pre .0) (i .0) (staged-within (i .1) (c .before .before .before .before .before .before .before .before .before .before .before .if1 .taken)) (i .3) in omega arith
+    let t = c .before .before .before in
+    let i = t .before .before .loop .inv in
+    let s = start t in omega (arith, place-inside (lists s) (s .pre .0) (i .0) (in-order t) (i .3) .1)
 
 loop-less : tie.Need-loop-less Inv-loop μ-loop
 loop-less c =
-    let s = c .before .before .before .before .before .before .before .before .before .before .before .before .before .before .before .before .before .before .before .before .before in
-    let a = s .args in
-    let i = c .before .before .before .before .before .before .before .before .before .before .before .before .before .loop .inv in
-    let m = measured (job-lists (a .points .now) (a .triangles .now) (a .kept .now) (a .table .now)) (s .pre .0) in
-    let n : length (a .points .now) / 3 ≤ 16 = omega (arith, m .most, i .0) in
-    let g = staged-within (i .1) (c .before .before .before .before .before .before .before .before .before .before .before .if1 .taken) in
+    let t = c .before .before .before in
+    let n = few-points t in
+    let g = in-order t in
     omega (arith, rank-rises n g (c .next-four .ensures), rank-bounded n (staged-next g (c .next-four .ensures)))
 
 loop-again : tie.Need-loop-again Inv-loop μ-loop
 loop-again c =
-    let s = c .before .before .before .before .before .before .before .before .before .before .before .before .before .before .before .before .before .before .before .before .before in
-    let a = s .args in
-    let i = c .before .before .before .before .before .before .before .before .before .before .before .before .before .loop .inv in
-    let m = measured (job-lists (a .points .now) (a .triangles .now) (a .kept .now) (a .table .now)) (s .pre .0) in
-    let g = staged-within (i .1) (c .before .before .before .before .before .before .before .before .before .before .before .if1 .taken) in
-    let k = c .before .before .before .before .before .before .before .consider-four in (
+    let t = c .before .before .before in
+    let s = start t in
+    let i = t .before .before .loop .inv in
+    let g = in-order t in
+    let graded = c .before .before .grade .ensures in (
       i .0,
       staged-next g (c .next-four .ensures),
-      gathering-step (job-lists (a .points .now) (a .triangles .now) (a .kept .now) (a .table .now)) (i .0) {fours2 = k .last .1 .1 .1 .1 .1 .1 .1 .1 .1 .1 .0} {codes2 = k .last .1 .1 .1 .1 .1 .1 .1 .1 .1 .1 .1 .0} {qualities2 = k .last .1 .1 .1 .1 .1 .1 .1 .1 .1 .1 .1 .1 .0} (m .most) g (i .2) (k .ensures) (c .next-four .ensures),
+      gathering-step (lists s) (i .0) {fours2 = c .before .if2 .fours} {codes2 = c .before .if2 .codes} {qualities2 = c .before .if2 .qualities} {r = c .before .if2 .k} (points-and-table s .most) g (i .2)
+          (elim (c .before .if2 .came) [
+            | inl w ↦ rw (w .5, w .6, w .7, w .8) (considered-above (lists s) graded (w .0 .taken) (w .4 .ensures .0) (w .4 .ensures .1) (w .4 .ensures .2))
+            | inr w ↦ rw (w .1, w .2, w .3, w .4) (considered-zero (lists s) graded (w .0 .left))
+          ])
+          (c .next-four .ensures),
       next-place (i .3) g (c .next-four .ensures),
     )
 
-same-length : tie.Need-same-length Inv-loop μ-loop
-same-length c = c .before .before .loop .inv .2 .fours-long ∙ sym (c .before .before .before .before .before .before .before .before .before .before .pre .5)
-
-same-length-2 : tie.Need-same-length-2 Inv-loop μ-loop
-same-length-2 c = c .before .before .loop .inv .2 .codes-long ∙ sym (c .before .before .before .before .before .before .before .before .before .before .pre .6)
-
-same-length-3 : tie.Need-same-length-3 Inv-loop μ-loop
-same-length-3 c = c .before .before .loop .inv .2 .qualities-long ∙ sym (c .before .before .before .before .before .before .before .before .before .before .pre .7)
-
 returns : tie.Need-returns Inv-loop μ-loop
 returns c =
-    let s = c .before .before .before .before .before .before .before .before .before .before in
-    let a = s .args in
-    let i = c .before .before .loop .inv in gathering-end (job-lists (a .points .now) (a .triangles .now) (a .kept .now) (a .table .now)) (i .0) (s .pre .0) (i .1) (omega arith) (i .2)
+    let s = c .before .before .before .before .before .before .before in
+    let i = c .before .before .loop .inv in gathering-end (lists s) (i .0) (s .pre .0) (i .1) (omega arith) (i .2)
 
 pub gather-spec : {M : Type 1} → statement M
 gather-spec =
@@ -114,12 +123,11 @@ gather-spec =
     Inv-loop
     μ-loop
     loop-holds
-    consider-four-requires
+    grade-requires
+    file-requires
+    add-k
     next-four-requires
     add-at
     loop-less
     loop-again
-    same-length
-    same-length-2
-    same-length-3
     returns)

@@ -2,9 +2,13 @@
 use mathlib.Core.Path.{sym, _∙_}
 use borrow.Author.Tests.{not-true, not-false}
 use borrow.Author.Needs.{needs}
+use Rattle.fillings.proofs.Loops.ChoiceLoops.{choice-given-up, choice-shut, choice-hopeless, choice-open, choice-kept}
 use Rattle.propagation.proofs.choose.consider.Statement.{statement}
 use Rattle.propagation.proofs.choose.consider.Tie as tie
-use Rattle.fillings.proofs.Loops.ChoiceLoops.{choice-given-up, choice-shut, choice-hopeless, choice-open, choice-kept}
+
+-- the start, from an open face
+abbrev start : tie.Else2 → tie.Start
+start c = c .before .before .before .before .before .before .before
 
 returns : tie.Need-returns
 returns c = choice-given-up (c .if1 .taken)
@@ -22,13 +26,13 @@ shared-slice-read-x : tie.Need-shared-slice-read-x
 shared-slice-read-x c = search needs
 
 returns-3 : tie.Need-returns-3
-returns-3 c = choice-hopeless (c .before .before .before .before .before .before .before .before .before .pre .0) (sym (c .before .before .before .is-open .ensures) ∙ not-false (c .before .before .before .is-open .result) (c .before .before .if2 .left)) (c .if3 .taken)
+returns-3 c = let e = c .before .before in choice-hopeless (start e .pre .0) (sym (e .before .is-open .ensures) ∙ not-false (e .before .is-open .result) (e .if2 .left)) (c .if3 .taken)
 
 returns-4 : tie.Need-returns-4
-returns-4 c = choice-open (c .before .before .before .before .before .before .before .before .before .before .before .pre .0) (sym (c .before .before .before .before .before .is-open .ensures) ∙ not-false (c .before .before .before .before .before .is-open .result) (c .before .before .before .before .if2 .left))
+returns-4 c = let e = c .before .before .before .before in choice-open (start e .pre .0) (sym (e .before .is-open .ensures) ∙ not-false (e .before .is-open .result) (e .if2 .left))
 
 returns-5 : tie.Need-returns-5
-returns-5 c = choice-open (c .before .before .before .before .before .before .before .before .before .before .before .before .before .pre .0) (sym (c .before .before .before .before .before .before .before .is-open .ensures) ∙ not-false (c .before .before .before .before .before .before .before .is-open .result) (c .before .before .before .before .before .before .if2 .left))
+returns-5 c = let e = c .before .before .before .before .before .before in choice-open (start e .pre .0) (sym (e .before .is-open .ensures) ∙ not-false (e .before .is-open .result) (e .if2 .left))
 
 returns-6 : tie.Need-returns-6
 returns-6 c = choice-kept (c .before .before .before .before .before .before .before .before .if1 .left) (c .before .before .if4 .left)

@@ -19,14 +19,21 @@ Inv-loop points triangles kept table rows fours codes bound m marks k₀ k = (k 
 abbrev μ-loop : tie.MeasureT-loop
 μ-loop points triangles kept table rows fours codes bound m marks k₀ k = m - k
 
+-- the start, from the loop
+abbrev start : tie.At-loop Inv-loop μ-loop → tie.Start Inv-loop μ-loop
+start l = l .before .before .before .before .before .before .before .before
+
 loop-holds : tie.Need-loop-holds Inv-loop μ-loop
 loop-holds c = (omega arith, all-apart-none _ _ _)
 
+mul-if1 : tie.Need-mul-if1 Inv-loop μ-loop
+mul-if1 c = omega arith
+
 shared-slice-read-if1 : tie.Need-shared-slice-read-if1 Inv-loop μ-loop
-shared-slice-read-if1 c = omega (arith, c .before .before .before .before .before .before .before .before .before .before .pre .0 .few, c .before .before .before .before .before .before .before .before .before .before .pre .2)
+shared-slice-read-if1 c = let p = start (c .before .before) .pre in omega (arith, p .0 .few, p .2)
 
 apart-from-lower-requires : tie.Need-apart-from-lower-requires Inv-loop μ-loop
-apart-from-lower-requires c κs = let p = c .before .before .before .before .before .before .before .before .before .before .before .pre in (p .0, p .1, p .2, omega arith, c .if1 .taken)
+apart-from-lower-requires c κs = let p = start (c .before .before .before) .pre in (p .0, p .1, p .2, omega arith, c .if1 .taken)
 
 returns : tie.Need-returns Inv-loop μ-loop
 returns c = (λ e. absurd (true≢false (sym e)), λ e. c .before .apart-from-lower .ensures .1 (not-true (c .before .apart-from-lower .result) (c .if2 .taken)))
@@ -53,6 +60,7 @@ all-apart-spec =
     Inv-loop
     μ-loop
     loop-holds
+    mul-if1
     shared-slice-read-if1
     apart-from-lower-requires
     returns

@@ -22,6 +22,9 @@ present c =
 loop-holds : tie.Need-loop-holds Inv-loop μ-loop
 loop-holds c = let x = c .before .before .args in (omega arith, linking-start (x .m) (x .fours .now) (x .marks .now) (x .v) (x .w))
 
+mul-x : tie.Need-mul-x Inv-loop μ-loop
+mul-x c = omega arith
+
 shared-slice-read-x : tie.Need-shared-slice-read-x Inv-loop μ-loop
 shared-slice-read-x c = omega arith
 
@@ -69,6 +72,7 @@ links-of-spec =
     Inv-loop
     μ-loop
     loop-holds
+    mul-x
     shared-slice-read-x
     four-at-requires
     link-corner-requires

@@ -7,7 +7,6 @@ use Prim.Native.Nat.{ℕ, _≤_, _<_}
 use native.Mathlib.Omega.{arith}
 use native.Mathlib.Decide.{decLt}
 use borrow.Author.Tests.{lt-ltb, le-ltb, eq-eqb, ne-eqb}
-use borrow.Author.Needs.{needs}
 use lib.Dec.{eqb, ltb}
 use lib.ListN.{getD}
 use Rattle.pruning.proofs.open.is_open.Statement.{statement}
@@ -39,39 +38,49 @@ behind-none own bnd c {d} e a b o =
     let r = le-ltb 0 (getD own d 0) o in rw (← e, p, q, r) refl
 
 mul-a : tie.Need-mul-a
-mul-a c = search needs
+mul-a c = omega arith
 
 shared-slice-read-a : tie.Need-shared-slice-read-a
-shared-slice-read-a c = search needs
+shared-slice-read-a c = omega arith
 
 returns : tie.Need-returns
 unfolding open-code
 returns c = rw (lt-ltb 0 _ (c .if1 .taken)) refl
 
+mul-b : tie.Need-mul-b
+mul-b c = omega arith
+
 shared-slice-read-b : tie.Need-shared-slice-read-b
-shared-slice-read-b c = search needs
+shared-slice-read-b c = omega arith
 
 returns-2 : tie.Need-returns-2
 unfolding open-code
 returns-2 c = rw (le-ltb 0 _ (c .before .before .if1 .left), lt-ltb 0 _ (c .if2 .taken)) refl
 
 flip-requires : tie.Need-flip-requires
-flip-requires c κs = search needs
+flip-requires c κs = omega arith
 
 mul-e : tie.Need-mul-e
-mul-e c = search needs
+mul-e c = omega (arith, c .flip .ensures .1)
 
 shared-slice-read-e : tie.Need-shared-slice-read-e
-shared-slice-read-e c = search needs
+shared-slice-read-e c = omega arith
+
+mul-f : tie.Need-mul-f
+mul-f c = omega arith
 
 shared-slice-read-f : tie.Need-shared-slice-read-f
-shared-slice-read-f c = search needs
+shared-slice-read-f c = omega arith
 
 returns-3 : tie.Need-returns-3
-returns-3 c = behind-set (c .before .before .before .before .before .before .before .before .before .before .args .held .now) (c .before .before .before .before .before .before .before .before .before .before .args .bound .now) (c .before .before .before .before .before .before .before .before .before .before .args .c) (c .before .before .before .flip .ensures .0) (c .before .before .before .before .before .before .if1 .left) (c .before .before .before .before .if2 .left) (c .before .if3 .taken)
+returns-3 c =
+    let s = c .before .before .before .before .before .before .before .before .before .before in
+    behind-set (s .args .held .now) (s .args .bound .now) (s .args .c) (c .before .before .before .flip .ensures .0) (c .before .before .before .before .before .before .if1 .left) (c .before .before .before .before .if2 .left) (c .before .if3 .taken)
 
 returns-4 : tie.Need-returns-4
-returns-4 c = behind-none (c .before .before .before .before .before .before .before .before .before .args .held .now) (c .before .before .before .before .before .before .before .before .before .args .bound .now) (c .before .before .before .before .before .before .before .before .before .args .c) (c .before .before .flip .ensures .0) (c .before .before .before .before .before .if1 .left) (c .before .before .before .if2 .left) (c .if3 .left)
+returns-4 c =
+    let s = c .before .before .before .before .before .before .before .before .before in
+    behind-none (s .args .held .now) (s .args .bound .now) (s .args .c) (c .before .before .flip .ensures .0) (c .before .before .before .before .before .if1 .left) (c .before .before .before .if2 .left) (c .if3 .left)
 
 pub is-open-spec : {M : Type 1} → statement M
 is-open-spec =
@@ -80,11 +89,13 @@ is-open-spec =
     mul-a
     shared-slice-read-a
     returns
+    mul-b
     shared-slice-read-b
     returns-2
     flip-requires
     mul-e
     shared-slice-read-e
+    mul-f
     shared-slice-read-f
     returns-3
     returns-4)

@@ -1,38 +1,45 @@
 -- `pruning::prune::look_around` meets its contract. The loop's invariant: what fell was in no filling. Assumes nothing.
-use mathlib.Core.Path.{sym, _∙_}
-use Prim.Native.Nat.{_+_, _*_, _-_, _≤_}
+use Prim.Native.Nat.{_+_, _*_, _-_, _≤_, _<_}
 use native.Mathlib.Omega.{arith}
-use Rattle.pruning.specs.Pruned.{Pruned}
-use Rattle.pruning.proofs.Pruning.Falling.{pruned-none, pruned-trans}
+use lib.ListN.{getD}
+use Rattle.pruning.specs.Pruned.{Pruned-state}
+use Rattle.pruning.proofs.Pruning.States.{pruned-state-none, pruned-state-trans, still-prunable}
 use Rattle.pruning.proofs.prune.look_around.Statement.{statement}
 use Rattle.pruning.proofs.prune.look_around.Tie as tie
 
 abbrev Inv-loop : tie.InvT-loop
-Inv-loop codes bound m held head next k marks₀ owners₀ trail₀ top end₀ i₀ marks owners trail end i = (i ≤ 4) × Pruned m codes bound held marks₀ trail₀ top marks owners trail end
+Inv-loop codes bound links m k state₀ top end₀ i₀ state end i = (i ≤ 4) × Pruned-state m codes bound state₀ top state end
 
 abbrev μ-loop : tie.MeasureT-loop
-μ-loop codes bound m held head next k marks₀ owners₀ trail₀ top end₀ i₀ marks owners trail end i = 4 - i
+μ-loop codes bound links m k state₀ top end₀ i₀ state end i = 4 - i
+
+abbrev start : tie.At-loop Inv-loop μ-loop → tie.Start Inv-loop μ-loop
+start c = c .before .before .before
+
+-- the face that is looked at is a code
+face-below : (c : tie.In-loop Inv-loop μ-loop) → getD (start (c .before) .args .codes .now) (start (c .before) .args .k * 4 + c .before .loop .i) 0 < 4096
+face-below c = start (c .before) .pre .0 .coded .below .each (start (c .before) .args .k * 4 + c .before .loop .i) (omega arith)
 
 loop-holds : tie.Need-loop-holds Inv-loop μ-loop
-loop-holds c = (omega arith, pruned-none (c .before .before .before .before .before .before .before .before .pre .6))
+loop-holds c = (omega arith, pruned-state-none (c .before .before .pre .0))
 
 mul-c : tie.Need-mul-c Inv-loop μ-loop
-mul-c c = omega (arith, c .before .before .before .before .before .before .before .before .before .before .pre .0 .few)
+mul-c c = omega (arith, start (c .before) .pre .0 .coded .few)
 
 add-c : tie.Need-add-c Inv-loop μ-loop
-add-c c = omega (arith, c .before .before .before .before .before .before .before .before .before .before .pre .0 .few)
+add-c c = omega (arith, start (c .before) .pre .0 .coded .few)
 
 mul-c-2 : tie.Need-mul-c-2 Inv-loop μ-loop
-mul-c-2 c = omega (arith, c .before .before .before .before .before .before .before .before .before .before .pre .0 .few)
+mul-c-2 c = omega (arith, start (c .before) .pre .0 .coded .few)
 
 shared-slice-read-c : tie.Need-shared-slice-read-c Inv-loop μ-loop
-shared-slice-read-c c = omega (arith, c .before .before .before .before .before .before .before .before .before .before .before .pre .0 .below .long)
+shared-slice-read-c c = omega (arith, start (c .before .before) .pre .0 .coded .below .long)
 
 cast-c : tie.Need-cast-c Inv-loop μ-loop
-cast-c c = omega (arith, c .before .before .before .before .before .before .before .before .before .before .before .pre .0 .below .each (c .before .before .before .before .before .before .before .before .before .before .before .args .k * 4 + c .before .before .loop .i) (omega arith))
+cast-c c = omega (arith, face-below (c .before))
 
 look-behind-requires : tie.Need-look-behind-requires Inv-loop μ-loop
-look-behind-requires c κs = (c .before .before .before .before .before .before .before .before .before .before .before .before .before .before .pre .0, c .before .before .before .before .before .before .before .before .before .before .before .before .before .before .pre .1, c .before .before .before .before .before .before .before .before .before .before .before .before .before .before .pre .2, c .before .before .before .before .before .before .before .before .before .before .before .before .before .before .pre .3, c .before .before .before .before .before .before .before .before .before .before .before .before .before .before .pre .4, c .before .before .before .before .before .before .before .before .before .before .before .before .before .before .pre .0 .below .each (c .before .before .before .before .before .before .before .before .before .before .before .before .before .before .args .k * 4 + c .before .before .before .before .before .loop .i) (omega arith), c .before .before .before .before .before .loop .inv .1 .trailed .living)
+look-behind-requires c κs = (still-prunable (start (c .before .before .before) .pre .0) (c .before .before .before .loop .inv .1), face-below (c .before .before))
 
 add-i : tie.Need-add-i Inv-loop μ-loop
 add-i c = omega arith
@@ -41,16 +48,7 @@ loop-less : tie.Need-loop-less Inv-loop μ-loop
 loop-less c = omega arith
 
 loop-again : tie.Need-loop-again Inv-loop μ-loop
-loop-again c = (omega arith, pruned-trans (c .before .before .before .before .before .before .before .before .before .before .before .before .loop .inv .1) (c .before .before .before .before .before .before .look-behind .ensures))
-
-same-length : tie.Need-same-length Inv-loop μ-loop
-same-length c = c .before .loop .inv .1 .trailed .living .marks-long ∙ sym (c .before .before .before .before .before .before .before .before .before .before .pre .6 .marks-long)
-
-same-length-2 : tie.Need-same-length-2 Inv-loop μ-loop
-same-length-2 c = c .before .loop .inv .1 .trailed .living .alive .long ∙ sym (c .before .before .before .before .before .before .before .before .before .before .pre .6 .alive .long)
-
-same-length-3 : tie.Need-same-length-3 Inv-loop μ-loop
-same-length-3 c = c .before .loop .inv .1 .trailed .living .trail-long ∙ sym (c .before .before .before .before .before .before .before .before .before .before .pre .6 .trail-long)
+loop-again c = (omega arith, pruned-state-trans (c .before .before .before .before .loop .inv .1) (c .look-behind .ensures))
 
 returns : tie.Need-returns Inv-loop μ-loop
 returns c = c .before .loop .inv .1
@@ -71,7 +69,4 @@ look-around-spec =
     add-i
     loop-less
     loop-again
-    same-length
-    same-length-2
-    same-length-3
     returns)

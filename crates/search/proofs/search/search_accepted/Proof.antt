@@ -1,6 +1,5 @@
 -- `search::search::search_accepted` meets its contract: signs, boundary, candidates, then the search. Assumes nothing.
-use borrow.Author.Needs.{needs}
-use mathlib.Core.Path.{_≡_}
+use mathlib.Core.Path.{_≡_, sym, _∙_}
 use Prim.Native.Nat.{ℕ}
 use native.Mathlib.Omega.{arith}
 use borrow.Author.Needs.{length-unmapped}
@@ -20,74 +19,47 @@ flags c =
     (boundary-code-flags (job-lists (x .points .now) (x .triangles .now) (x .kept .now) (x .table .now)) (c .before .before .before .boundary-codes .ensures .0) (c .named .ensures), length-unmapped ℕ (c .named .result .flag) 4096 (c .named .ok .1 .1 .0 .1 .0 .1))
 
 slice-aggregate-fill-rows : tie.Need-slice-aggregate-fill-rows
-slice-aggregate-fill-rows c = search needs
+slice-aggregate-fill-rows c = sym (length-replicate {A = ℕ} 4096 0)
 
 fill-rows-requires : tie.Need-fill-rows-requires
 fill-rows-requires c κs =
-    let s = c .before .before .before .before in
-    let x = s .args in
-    (accepted (job-lists (x .points .now) (x .triangles .now) (x .kept .now) (x .table .now)) (s .pre .0) .near, accepted-points-few (job-lists (x .points .now) (x .triangles .now) (x .kept .now) (x .table .now)) (s .pre .0), length-replicate {A = ℕ} 4096 0)
+    let x = c .before .before .before .before .args in
+    let l = job-lists (x .points .now) (x .triangles .now) (x .kept .now) (x .table .now) in
+    let a = c .before .before .before .before .pre .0 in (accepted l a .near, accepted-points-few l a, length-replicate {A = ℕ} 4096 0)
 
 boundary-codes-requires : tie.Need-boundary-codes-requires
 boundary-codes-requires c κs =
-    let s = c .before .before .before .before .before .before in
-    let x = s .args in
-    (accepted-triangles-few (job-lists (x .points .now) (x .triangles .now) (x .kept .now) (x .table .now)) (s .pre .0), accepted-triangles-below-16 (job-lists (x .points .now) (x .triangles .now) (x .kept .now) (x .table .now)) (s .pre .0))
+    let x = c .before .before .before .before .before .before .args in
+    let l = job-lists (x .points .now) (x .triangles .now) (x .kept .now) (x .table .now) in
+    let a = c .before .before .before .before .before .before .pre .0 in (accepted-triangles-few l a, accepted-triangles-below-16 l a)
 
 slice-aggregate-named : tie.Need-slice-aggregate-named
-slice-aggregate-named c = search needs
+slice-aggregate-named c = let b = c .before .before .boundary-codes in sym (length-unmapped ℕ (b .result .code) 4096 (b .ok .1 .1 .0 .1 .0 .1))
 
 named-requires : tie.Need-named-requires
-named-requires c κs = search needs
+named-requires c κs = c .before .before .boundary-codes .ensures .1
 
 slice-aggregate-gather : tie.Need-slice-aggregate-gather
-slice-aggregate-gather c = search needs
+slice-aggregate-gather c = sym (c .before .before .before .before .before .before .before .fill-rows .kept .1 .0 ∙ length-replicate {A = ℕ} 4096 0)
 
 slice-aggregate-gather-2 : tie.Need-slice-aggregate-gather-2
-slice-aggregate-gather-2 c = search needs
-
-slice-aggregate-gather-3 : tie.Need-slice-aggregate-gather-3
-slice-aggregate-gather-3 c = search needs
-
-slice-aggregate-gather-4 : tie.Need-slice-aggregate-gather-4
-slice-aggregate-gather-4 c = search needs
-
-slice-aggregate-gather-5 : tie.Need-slice-aggregate-gather-5
-slice-aggregate-gather-5 c = search needs
+slice-aggregate-gather-2 c = sym (flags (c .before .before .before) .1)
 
 gather-requires : tie.Need-gather-requires
 gather-requires c κs =
-    let s = c .before .before .before .before .before .before .before .before .before .before .before .before .before .before .before .before in
-    let f = flags (c .before .before .before .before .before .before) in (s .pre .0, c .before .before .before .before .before .before .before .before .before .before .before .fill-rows .ensures, f .0, f .1, omega arith, length-replicate {A = ℕ} 7280 0, length-replicate {A = ℕ} 7280 0, length-replicate {A = ℕ} 1820 0)
-
-slice-aggregate-search-candidates : tie.Need-slice-aggregate-search-candidates
-slice-aggregate-search-candidates c = search needs
-
-slice-aggregate-search-candidates-2 : tie.Need-slice-aggregate-search-candidates-2
-slice-aggregate-search-candidates-2 c = search needs
-
-slice-aggregate-search-candidates-3 : tie.Need-slice-aggregate-search-candidates-3
-slice-aggregate-search-candidates-3 c = search needs
-
-slice-aggregate-search-candidates-4 : tie.Need-slice-aggregate-search-candidates-4
-slice-aggregate-search-candidates-4 c = search needs
-
-slice-aggregate-search-candidates-5 : tie.Need-slice-aggregate-search-candidates-5
-slice-aggregate-search-candidates-5 c = search needs
-
-slice-aggregate-search-candidates-6 : tie.Need-slice-aggregate-search-candidates-6
-slice-aggregate-search-candidates-6 c = search needs
+    let f = flags (c .before .before .before .before .before .before) in
+    (c .before .before .before .before .before .before .before .before .before .before .before .before .before .before .before .before .pre .0, c .before .before .before .before .before .before .before .before .before .before .before .fill-rows .ensures, f .0, f .1, omega arith, length-replicate {A = ℕ} 7280 0, length-replicate {A = ℕ} 7280 0, length-replicate {A = ℕ} 1820 0)
 
 search-candidates-requires : tie.Need-search-candidates-requires
 search-candidates-requires c κs =
-    let s = c .before .before .before .before .before .before .before .before .before .before .before .before .before .before .before .before .before .before .before .before .before .before .before .before .before .before .before in
-    let f = flags (c .before .before .before .before .before .before .before .before .before .before .before .before .before .before .before .before .before) in (s .pre .0, c .before .before .before .before .before .before .before .before .before .before .before .before .before .before .before .before .before .before .before .before .boundary-codes .ensures .0, f .0, f .1, c .before .before .before .before .before .before .before .before .before .before .before .before .before .before .before .before .before .before .before .before .before .before .fill-rows .ensures, c .before .before .before .before .before .before .before .before .before .before .gather .ensures, s .pre .1)
+    let p = c .before .before .before .before .before .before .before .before .before .before .before .before .before .before .before .before .before .before .before .before .before .before .pre in
+    let f = flags (c .before .before .before .before .before .before .before .before .before .before .before .before) in (p .0, c .before .before .before .before .before .before .before .before .before .before .before .before .before .before .before .boundary-codes .ensures .0, f .0, f .1, c .before .before .before .before .before .before .before .before .before .before .before .before .before .before .before .before .before .fill-rows .ensures, c .before .before .before .before .before .gather .ensures, p .1)
 
 same-length : tie.Need-same-length
-same-length c = search needs
+same-length c = c .before .before .search-candidates .kept .1 .1 .1 .1 .1 .1 .1 .1 .1 .0
 
 returns : tie.Need-returns
-returns c = search needs
+returns c = c .before .before .search-candidates .ensures
 
 pub search-accepted-spec : {M : Type 1} → statement M
 search-accepted-spec =
@@ -100,16 +72,7 @@ search-accepted-spec =
     named-requires
     slice-aggregate-gather
     slice-aggregate-gather-2
-    slice-aggregate-gather-3
-    slice-aggregate-gather-4
-    slice-aggregate-gather-5
     gather-requires
-    slice-aggregate-search-candidates
-    slice-aggregate-search-candidates-2
-    slice-aggregate-search-candidates-3
-    slice-aggregate-search-candidates-4
-    slice-aggregate-search-candidates-5
-    slice-aggregate-search-candidates-6
     search-candidates-requires
     same-length
     returns)

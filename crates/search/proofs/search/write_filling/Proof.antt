@@ -19,6 +19,9 @@ loop-holds : tie.Need-loop-holds Inv-loop μ-loop
 loop-holds c =
     let a = c .before .before .args in (omega arith, front-start (a .fours .now) (a .t3) (a .answer .now))
 
+mul-x : tie.Need-mul-x Inv-loop μ-loop
+mul-x c = omega arith
+
 array-read-x : tie.Need-array-read-x Inv-loop μ-loop
 array-read-x c = omega arith
 
@@ -97,6 +100,7 @@ write-filling-spec =
     Inv-loop
     μ-loop
     loop-holds
+    mul-x
     array-read-x
     mul-put-four
     shared-slice-read-put-four

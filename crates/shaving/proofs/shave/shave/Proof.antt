@@ -1,5 +1,5 @@
 -- `shaving::shave::shave` meets its contract. Assumes nothing.
-use mathlib.Core.Path.{sym, ap, _∙_}
+use mathlib.Core.Path.{_≡_}
 use mathlib.Core.Logic.{inl, inr}
 use Prim.Native.Nat.{_-_, _≤_}
 use native.Mathlib.Omega.{arith}
@@ -10,42 +10,55 @@ use Rattle.laws.specs.Laws.{fours-in}
 use Rattle.laws.specs.Lists.{job-lists}
 use Rattle.laws.specs.Check.{job}
 use Rattle.fillings.proofs.ByCode.Context.{ready-reduced}
+use Rattle.trail.specs.State.{marks-of, owners-of, held-of, trail-of}
 use Rattle.shaving.specs.Shaved.{Shaved}
-use Rattle.shaving.proofs.Shaving.Calls.{can-discard-back}
-use Rattle.shaving.proofs.Shaving.ShaveLoop.{shaved-back, shaved-counts, shaved-moved, shaved-none, shaved-refuted}
+use Rattle.shaving.proofs.Shaving.Calls.{can-discard}
+use Rattle.shaving.proofs.Shaving.ShaveLoop.{shaved-discarded, shaved-in-order, shaved-none, shaved-step, shaved-tried}
 
 abbrev Inv-loop : tie.InvT-loop
-Inv-loop points triangles kept table rows fours codes boundary bound m corners piercing head next watch marks₀ owners₀ held₀ trail₀ top end₀ k₀ marks owners held trail end k =
-    (k ≤ m) × Shaved (job (job-lists points triangles kept table)) (fours-in m fours) m codes marks₀ held₀ trail₀ end₀ marks owners held trail end
+Inv-loop points triangles kept table faces fours codes corners piercing links m watch state₀ top end₀ k₀ state end k =
+    (k ≤ m) × (length state ≡ 4) × Shaved (job (job-lists points triangles kept table)) (fours-in m fours) m codes (marks-of state₀) (held-of state₀) (trail-of state₀) end₀ (marks-of state) (owners-of state) (held-of state) (trail-of state) end
 
 abbrev μ-loop : tie.MeasureT-loop
-μ-loop points triangles kept table rows fours codes boundary bound m corners piercing head next watch marks₀ owners₀ held₀ trail₀ top end₀ k₀ marks owners held trail end k = m - k
+μ-loop points triangles kept table faces fours codes corners piercing links m watch state₀ top end₀ k₀ state end k = m - k
 
--- the start, from the loop
+-- the places before: the start, the loop
 abbrev start : tie.At-loop Inv-loop μ-loop → tie.Start Inv-loop μ-loop
-start l = l .before .before .before .before .before .before .before .before .before .before .before .before .before .before .before .before
+start l = l .before .before .before .before .before .before .before
+
+abbrev looping : tie.After-is-refuted Inv-loop μ-loop → tie.At-loop Inv-loop μ-loop
+looping r = r .before .before .before .before .before
 
 loop-holds : tie.Need-loop-holds Inv-loop μ-loop
-loop-holds c = (omega arith, shaved-none _ _ (c .before .before .before .before .before .before .before .before .before .before .before .before .before .before .before .pre .2))
+loop-holds c = let o = c .before .before .before .before .before .before .pre .2 in (omega arith, o .rows, shaved-none _ _ (o .living))
 
-slice-read-if1 : tie.Need-slice-read-if1 Inv-loop μ-loop
-slice-read-if1 c = let l = c .before .before in let x = start l .pre .0 .context in omega (arith, x .few, l .loop .inv .1 .trailed .living .marks-long)
+mul-if1 : tie.Need-mul-if1 Inv-loop μ-loop
+mul-if1 c = omega (arith, start (c .before) .pre .0 .context .few)
+
+index-1-if1 : tie.Need-index-1-if1 Inv-loop μ-loop
+index-1-if1 c = omega arith
+
+index-2-if1 : tie.Need-index-2-if1 Inv-loop μ-loop
+index-2-if1 c = omega (arith, start (c .before) .pre .0 .context .few)
 
 is-refuted-requires : tie.Need-is-refuted-requires Inv-loop μ-loop
 is-refuted-requires c κs =
-    let l = c .before .before .before .before .before .before .before in
-    let s = start l in
-    let i = l .loop .inv .1 in
-    (s .pre .0, ready-reduced (s .pre .0 .context) (i .reduced) (s .pre .1), i .trailed .living, shaved-counts (s .pre .3) i, omega arith, c .before .before .before .before .if1 .taken)
+    let l = c .before .before .before .before in
+    let h = start l .pre in
+    let i = l .loop .inv in
+    (h .0, ready-reduced (h .0 .context) (i .2 .reduced) (h .1), shaved-in-order {new = l .loop .state} (h .2) (i .1) (i .2), c .before .before .before .loop-test .taken, c .before .if1 .taken)
+
+index-1-discard : tie.Need-index-1-discard Inv-loop μ-loop
+index-1-discard c = omega arith
 
 discard-requires : tie.Need-discard-requires Inv-loop μ-loop
 discard-requires c κs =
-    let r = c .before .before .before .before .before .before .before .before .before .before .before .before .before in
-    let l = r .before .before .before .before .before .before .before .before in
-    let s = start l in
-    let i = l .loop .inv .1 in
-    can-discard-back (s .pre .0) {k = l .loop .k} {ms = l .loop .marks} {ow = l .loop .owners} {held = l .loop .held} {tr = l .loop .trail} {top = l .loop .end} {ns = r .is-refuted .last .1 .1 .1 .1 .1 .1 .1 .1 .1 .1 .1 .1 .1 .1 .1 .1 .0} {ow2 = r .is-refuted .last .1 .1 .1 .1 .1 .1 .1 .1 .1 .1 .1 .1 .1 .1 .1 .1 .1 .0} {held2 = r .is-refuted .last .1 .1 .1 .1 .1 .1 .1 .1 .1 .1 .1 .1 .1 .1 .1 .1 .1 .1 .0} {ur = r .is-refuted .last .1 .1 .1 .1 .1 .1 .1 .1 .1 .1 .1 .1 .1 .1 .1 .1 .1 .1 .1 .0} (r .is-refuted .ensures .back)
-    (omega (arith, r .before .before .before .before .before .before .before .loop-test .taken)) (r .before .before .before .before .before .if1 .taken) (i .trailed .living) (shaved-counts (s .pre .3) i)
+    let r = c .before .before .before .before in
+    let l = looping r in
+    let h = start l .pre in
+    let i = l .loop .inv in
+    can-discard (h .0) {k = l .loop .k} {old = l .loop .state} {new = r .is-refuted .last .1 .1 .1 .1 .1 .1 .1 .1 .1 .1 .1 .1 .1 .0} (shaved-in-order (h .2) (i .1) (i .2))
+    (r .before .before .before .before .loop-test .taken) (r .before .before .if1 .taken) (r .is-refuted .ensures .0 .back) (r .is-refuted .ensures .1)
 
 add-k : tie.Need-add-k Inv-loop μ-loop
 add-k c = omega arith
@@ -57,31 +70,21 @@ loop-again : tie.Need-loop-again Inv-loop μ-loop
 loop-again c =
     let l = c .before .before .before in
     let s = start l in
-    let i = l .loop .inv .1 in (
-      omega arith,
-      elim (c .if1 .came) [
-        | inl w ↦
-            shaved-moved (w .26) (w .27) (w .28) (w .29) (w .30)
-            (shaved-refuted {ns = l .loop .marks} {ow = l .loop .owners} {held1 = l .loop .held} {ur = l .loop .trail} {ls = w .5 .last .1 .1 .1 .1 .1 .1 .1 .1 .1 .1 .1 .1 .1 .1 .1 .1 .0} {ow2 = w .5 .last .1 .1 .1 .1 .1 .1 .1 .1 .1 .1 .1 .1 .1 .1 .1 .1 .1 .0} {held2 = w .5 .last .1 .1 .1 .1 .1 .1 .1 .1 .1 .1 .1 .1 .1 .1 .1 .1 .1 .1 .0} {vr = w .5 .last .1 .1 .1 .1 .1 .1 .1 .1 .1 .1 .1 .1 .1 .1 .1 .1 .1 .1 .1 .0} {end = l .loop .end} {k = l .loop .k} (s .pre .0 .context) (omega arith) (w .0 .taken) (s .pre .3) (w .14 .taken) (w .5 .ensures) (w .19 .ensures) i)
-        | inr (inl w) ↦ shaved-moved {m = s .args .m} (w .15) (w .16) (w .17) (w .18) (w .19) (shaved-back {m = s .args .m} {ns = l .loop .marks} {ow = l .loop .owners} {held1 = l .loop .held} {ur = l .loop .trail} {ls = w .5 .last .1 .1 .1 .1 .1 .1 .1 .1 .1 .1 .1 .1 .1 .1 .1 .1 .0} {ow2 = w .5 .last .1 .1 .1 .1 .1 .1 .1 .1 .1 .1 .1 .1 .1 .1 .1 .1 .1 .0} {held2 = w .5 .last .1 .1 .1 .1 .1 .1 .1 .1 .1 .1 .1 .1 .1 .1 .1 .1 .1 .1 .0} {vr = w .5 .last .1 .1 .1 .1 .1 .1 .1 .1 .1 .1 .1 .1 .1 .1 .1 .1 .1 .1 .1 .0} {end = l .loop .end} (w .5 .ensures .back) i)
-        | inr (inr w) ↦ shaved-moved (w .1) (w .2) (w .3) (w .4) (w .5) i
-      ],
-    )
-
-same-length : tie.Need-same-length Inv-loop μ-loop
-same-length c = let l = c .before in l .loop .inv .1 .trailed .living .marks-long ∙ sym (start l .pre .2 .marks-long)
-
-same-length-2 : tie.Need-same-length-2 Inv-loop μ-loop
-same-length-2 c = let l = c .before in l .loop .inv .1 .trailed .living .alive .long ∙ sym (start l .pre .2 .alive .long)
-
-same-length-3 : tie.Need-same-length-3 Inv-loop μ-loop
-same-length-3 c = ap length (c .before .loop .inv .1 .set)
-
-same-length-4 : tie.Need-same-length-4 Inv-loop μ-loop
-same-length-4 c = let l = c .before in l .loop .inv .1 .trailed .living .trail-long ∙ sym (start l .pre .2 .trail-long)
+    let o = s .args .state .now in
+    let i = l .loop .inv in
+    let b = c .before .before .loop-test .taken in
+    elim (c .if1 .came) [
+      | inl w ↦
+          shaved-step o {new = w .7 .last .1 .1 .1 .1 .1 .0} b (w .8) (w .9)
+          (shaved-discarded o (l .loop .state) {tried = w .2 .last .1 .1 .1 .1 .1 .1 .1 .1 .1 .1 .1 .1 .1 .0} {new = w .7 .last .1 .1 .1 .1 .1 .0} {end = l .loop .end} {k = l .loop .k} (s .pre .0 .context) b (w .0 .taken) (s .pre .2 .holds) (w .3 .taken) (w .2 .ensures .0) (w .7 .ensures .0) (w .7 .ensures .1) (i .2))
+      | inr (inl w) ↦
+          shaved-step o {new = w .2 .last .1 .1 .1 .1 .1 .1 .1 .1 .1 .1 .1 .1 .1 .0} b (w .4) (w .5)
+          (shaved-tried {m = s .args .m} o (l .loop .state) (w .2 .last .1 .1 .1 .1 .1 .1 .1 .1 .1 .1 .1 .1 .1 .0) {end = l .loop .end} (w .2 .ensures .0 .back) (w .2 .ensures .1) (i .2))
+      | inr (inr w) ↦ shaved-step o b (w .1) (w .2) (i .1, i .2)
+    ]
 
 returns : tie.Need-returns Inv-loop μ-loop
-returns c = c .before .loop .inv .1
+returns c = let i = c .before .loop .inv in (i .2, i .1)
 
 pub shave-spec : {M : Type 1} → statement M
 shave-spec =
@@ -90,14 +93,13 @@ shave-spec =
     Inv-loop
     μ-loop
     loop-holds
-    slice-read-if1
+    mul-if1
+    index-1-if1
+    index-2-if1
     is-refuted-requires
+    index-1-discard
     discard-requires
     add-k
     loop-less
     loop-again
-    same-length
-    same-length-2
-    same-length-3
-    same-length-4
     returns)

@@ -1,5 +1,5 @@
 -- `thresholds::threshold::start` meets its contract. Assumes nothing.
-use mathlib.Core.Path.{_≡_, sym, subst, _∙_}
+use mathlib.Core.Path.{_≡_, subst}
 use mathlib.Core.Logic.{⊎-elim}
 use Prim.Native.Nat.{ℕ, _-_, _≤_}
 use native.Mathlib.Omega.{arith}
@@ -11,7 +11,7 @@ use Rattle.thresholds.proofs.threshold.start.Statement.{statement}
 use Rattle.thresholds.proofs.threshold.start.Tie as tie
 
 abbrev Inv-loop : tie.InvT-loop
-Inv-loop qualities m q marks₀ k₀ marks k = (k ≤ m) × (length marks ≡ 1820) × Alive-from qualities k q marks
+Inv-loop qualities m q marks₀ k₀ marks k = (k ≤ m) × (length marks ≡ 4096) × Alive-from qualities k q marks
 
 abbrev μ-loop : tie.MeasureT-loop
 μ-loop qualities m q marks₀ k₀ marks k = m - k
@@ -25,11 +25,17 @@ mul-if1 c = omega arith
 shared-slice-read-if1 : tie.Need-shared-slice-read-if1 Inv-loop μ-loop
 shared-slice-read-if1 c = omega arith
 
-slice-write-marks : tie.Need-slice-write-marks Inv-loop μ-loop
-slice-write-marks c = omega arith
+mul-marks : tie.Need-mul-marks Inv-loop μ-loop
+mul-marks c = omega arith
 
-slice-write-marks-2 : tie.Need-slice-write-marks-2 Inv-loop μ-loop
-slice-write-marks-2 c = omega arith
+element-write-marks : tie.Need-element-write-marks Inv-loop μ-loop
+element-write-marks c = omega arith
+
+mul-marks-2 : tie.Need-mul-marks-2 Inv-loop μ-loop
+mul-marks-2 c = omega arith
+
+element-write-marks-2 : tie.Need-element-write-marks-2 Inv-loop μ-loop
+element-write-marks-2 c = omega arith
 
 add-k : tie.Need-add-k Inv-loop μ-loop
 add-k c = omega arith
@@ -41,12 +47,9 @@ loop-again : tie.Need-loop-again Inv-loop μ-loop
 loop-again c =
     let i = c .before .before .before .loop .inv in (
       omega arith,
-      ⊎-elim (λ w. rw (w .1) (set-long ℕ (c .before .before .before .loop .marks) (c .before .before .before .loop .k) 1820 1 (i .1))) (λ w. rw (w .1) (set-long ℕ (c .before .before .before .loop .marks) (c .before .before .before .loop .k) 1820 0 (i .1))) (c .if1 .came),
+      ⊎-elim (λ w. rw (w .1) (set-long ℕ (c .before .before .before .loop .marks) (c .before .before .before .loop .k) 4096 1 (i .1))) (λ w. rw (w .1) (set-long ℕ (c .before .before .before .loop .marks) (c .before .before .before .loop .k) 4096 0 (i .1))) (c .if1 .came),
       ⊎-elim (λ w. rw (w .1) (alive-mark (w .0 .taken) (omega arith) (i .2))) (λ w. rw (w .1) (alive-skip (w .0 .left) (omega arith) (i .2))) (c .if1 .came),
     )
-
-same-length : tie.Need-same-length Inv-loop μ-loop
-same-length c = c .before .loop .inv .1 ∙ sym (c .before .before .pre .2)
 
 returns : tie.Need-returns Inv-loop μ-loop
 returns c =
@@ -62,10 +65,11 @@ start-spec =
     loop-holds
     mul-if1
     shared-slice-read-if1
-    slice-write-marks
-    slice-write-marks-2
+    mul-marks
+    element-write-marks
+    mul-marks-2
+    element-write-marks-2
     add-k
     loop-less
     loop-again
-    same-length
     returns)

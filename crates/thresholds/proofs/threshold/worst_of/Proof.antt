@@ -17,6 +17,9 @@ abbrev μ-loop : tie.MeasureT-loop
 loop-holds : tie.Need-loop-holds Inv-loop μ-loop
 loop-holds c = (omega arith, least-none)
 
+mul-x : tie.Need-mul-x Inv-loop μ-loop
+mul-x c = omega arith
+
 array-read-x : tie.Need-array-read-x Inv-loop μ-loop
 array-read-x c = omega arith
 
@@ -51,6 +54,7 @@ worst-of-spec =
     Inv-loop
     μ-loop
     loop-holds
+    mul-x
     array-read-x
     mul-q
     shared-slice-read-q

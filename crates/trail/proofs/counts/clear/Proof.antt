@@ -1,5 +1,5 @@
 -- `trail::counts::clear` meets its contract: the counts passed are 0. Assumes nothing.
-use mathlib.Core.Path.{_≡_, sym, ap, _∙_}
+use mathlib.Core.Path.{_≡_, ap, _∙_}
 use mathlib.Core.List.{List}
 use Prim.Native.Nat.{ℕ, _+_, _-_, _≤_, _<_}
 use native.Mathlib.Omega.{arith}
@@ -35,8 +35,8 @@ loop-holds c = (omega arith, c .pre, λ i l. absurd (omega arith))
 mul-counts : tie.Need-mul-counts Inv-loop μ-loop
 mul-counts c = omega arith
 
-slice-write-counts : tie.Need-slice-write-counts Inv-loop μ-loop
-slice-write-counts c = omega arith
+element-write-counts : tie.Need-element-write-counts Inv-loop μ-loop
+element-write-counts c = omega arith
 
 add-c : tie.Need-add-c Inv-loop μ-loop
 add-c c = omega arith
@@ -49,9 +49,6 @@ loop-again c =
     let v = c .before .loop .inv in
     (omega arith, length-set (c .before .loop .counts) (c .before .loop .c) 0 ∙ v .1, cleared-next (c .before .loop .counts) (c .before .loop .c) (omega arith) (v .2))
 
-same-length : tie.Need-same-length Inv-loop μ-loop
-same-length c = c .before .loop .inv .1 ∙ sym (c .before .before .pre)
-
 returns : tie.Need-returns Inv-loop μ-loop
 returns c = (c .before .loop .inv .1, cleared-all (c .before .loop .counts) (c .before .loop .c) (omega arith) (c .before .loop .inv .2))
 
@@ -63,9 +60,8 @@ clear-spec =
     μ-loop
     loop-holds
     mul-counts
-    slice-write-counts
+    element-write-counts
     add-c
     loop-less
     loop-again
-    same-length
     returns)

@@ -34,10 +34,10 @@ cast-c c = omega (arith, c .before .before .before .pre .1 .each (c .before .bef
 mul-counts : tie.Need-mul-counts Inv-loop μ-loop
 mul-counts c = omega (arith, c .before .before .before .pre .1 .each (c .before .before .before .args .k * 4 + c .before .before .loop .i) (omega arith))
 
-slice-read-counts : tie.Need-slice-read-counts Inv-loop μ-loop
-slice-read-counts c =
-    let l = c .before .before .before .before .pre .1 .each (c .before .before .before .before .args .k * 4 + c .before .before .before .loop .i) (omega arith) in
-    let e = c .before .before .before .loop .inv .1 .long in omega arith
+element-copy-out-counts : tie.Need-element-copy-out-counts Inv-loop μ-loop
+element-copy-out-counts c =
+    let l = c .before .before .before .pre .1 .each (c .before .before .before .args .k * 4 + c .before .before .loop .i) (omega arith) in
+    let e = c .before .before .loop .inv .1 .long in omega arith
 
 sub-counts : tie.Need-sub-counts Inv-loop μ-loop
 sub-counts c =
@@ -45,8 +45,8 @@ sub-counts c =
     let l = c .before .before .before .before .pre .1 .each (c .before .before .before .before .args .k * 4 + c .before .before .before .loop .i) (omega arith) in
     let r = c .before .before .before .loop .inv .1 in omega (arith, falling-more _ _ _ _ _ a refl (omega arith) (c .before .before .before .before .pre .3 a l) r)
 
-slice-write-counts : tie.Need-slice-write-counts Inv-loop μ-loop
-slice-write-counts c =
+element-write-counts : tie.Need-element-write-counts Inv-loop μ-loop
+element-write-counts c =
     let l = c .before .before .before .before .pre .1 .each (c .before .before .before .before .args .k * 4 + c .before .before .before .loop .i) (omega arith) in
     let e = c .before .before .before .loop .inv .1 .long in omega arith
 
@@ -62,9 +62,6 @@ loop-again c =
     let l = c .before .before .before .before .pre .1 .each (c .before .before .before .before .args .k * 4 + c .before .before .before .loop .i) (omega arith) in
     let e = r .long in
     (omega arith, falling-next _ _ _ _ _ _ refl (omega arith) (falling-more _ _ _ _ _ _ refl (omega arith) (c .before .before .before .before .pre .3 _ l) r) r)
-
-same-length : tie.Need-same-length Inv-loop μ-loop
-same-length c = c .before .loop .inv .1 .long
 
 returns : tie.Need-returns Inv-loop μ-loop
 returns c = fallen _ _ _ _ _ (omega arith) (c .before .loop .inv .1)
@@ -82,11 +79,10 @@ count-out-spec =
     shared-slice-read-c
     cast-c
     mul-counts
-    slice-read-counts
+    element-copy-out-counts
     sub-counts
-    slice-write-counts
+    element-write-counts
     add-i
     loop-less
     loop-again
-    same-length
     returns)
