@@ -69,7 +69,7 @@ extern "C" {
 #define COTTONTUFF_BENCH_TETS 256
 
 /* A stack for cottontuff_search, cottontuff_print and cottontuff_bench_replace. Each level of the search's recursion sets a tetrahedron, and no more than 280 can be set at once: the second is
- * proved. A level takes 1,184 bytes, read off the library, and 412,056 was the deepest that was measured, levels included (docs/BENCHMARKS.md): the compiler's part is not proved. */
+ * proved. A level takes 880 bytes, read off the library, and 481,688 was the deepest that was measured, levels included (docs/BENCHMARKS.md): the compiler's part is not proved. */
 #define COTTONTUFF_STACK_BYTES (768 * 1024)
 
 /* ---- what is answered: the lowest number that applies */

@@ -36,7 +36,8 @@ index-1-is-open : tie.Need-index-1-is-open
 index-1-is-open c = lit< {m = 2} {n = 4} tt
 
 is-open-requires : tie.Need-is-open-requires
-is-open-requires c κs = (c .before .before .before .before .flip .ensures .1, c .before .before .before .before .before .before .before .before .before .pre .0 .held-long, c .before .before .before .before .before .before .before .before .before .pre .0 .bound-long)
+is-open-requires c κs =
+    let p = c .before .before .before .before .before .before .before .before .before .pre in (omega (arith, c .before .before .before .before .flip .ensures .1, p .1), p .0 .held-long, p .0 .bound-long)
 
 returns-2 : tie.Need-returns-2
 returns-2 c = pruned-state-none (c .before .before .before .before .before .before .before .pre .0)
