@@ -80,6 +80,7 @@ pub fn reduce(
     kept: &[u8],
     table: &[i32],
     bound: &[u16],
+    links: &[[u16; 7280]; 2],
     q: u32,
     fours: &[u8],
     codes: &[u16],
@@ -92,11 +93,9 @@ pub fn reduce(
     requires { ⌜ (job-refusal (job-lists (now points) (now triangles) (now kept) (now table)) ≡ 0) × Bound-flags ((job (job-lists (now points) (now triangles) (now kept) (now table))) .triangles) (now bound) × (length (now bound) ≡ 4096) × (0 < q) × (q ≤ 1000000) × Whole (job-lists (now points) (now triangles) (now kept) (now table)) 1 (now fours) (now codes) (now qualities) m × (length (now fours2) ≡ 7280) × (length (now codes2) ≡ 7280) × (length (now qualities2) ≡ 1820) ⌝ }
     ensures { λ r. ⌜ Whole (job-lists (now (points .entry)) (now (triangles .entry)) (now (kept .entry)) (now (table .entry))) q (now (fours2 .exit)) (now (codes2 .exit)) (now (qualities2 .exit)) r ⌝ }
 {
-    let mut links = [[0u16; 7280]; 2];
-    chain(codes, m, &mut links);
     let mut state = [[0u16; 4096]; 4];
     begin(codes, qualities, m, q, &mut state);
-    sweep(codes, bound, &links, m, &mut state, 0);
+    sweep(codes, bound, links, m, &mut state, 0);
     compact(
         points,
         triangles,

@@ -16,6 +16,7 @@ ghost use Rattle.trail.specs.State.{Sized-state};
 ghost use Rattle.search.specs.inner.Threshold.{Under, Searched-from};
 use candidates::boundary::boundary_codes;
 use candidates::boundary::named;
+use candidates::pairs::chain;
 use candidates::pool::gather;
 use candidates::pool::put_four;
 use checker::check::check_job;
@@ -260,6 +261,7 @@ pub(crate) fn search_from(
     codes: &[u16; 7280],
     qualities: &[u32; 1820],
     m: usize,
+    links: &[[u16; 7280]; 2],
     watch: bool,
     low: u32,
     top: u32,
@@ -277,6 +279,7 @@ pub(crate) fn search_from(
         kept,
         table,
         &faces[2],
+        links,
         low,
         fours,
         codes,
@@ -320,6 +323,8 @@ pub(crate) fn search_candidates(
     ensures { λ r. ⌜ Searched (job (job-lists (now (points .entry)) (now (triangles .entry)) (now (kept .entry)) (now (table .entry)))) r (now (answer .entry)) (now (answer .exit)) ⌝ }
 {
     let watch = anything_loose(points.len() / 3, triangles, kept);
+    let mut links = [[0u16; 7280]; 2];
+    chain(codes, m, &mut links);
     let low = opening(
         codes,
         qualities,
@@ -327,6 +332,7 @@ pub(crate) fn search_candidates(
         &faces[1],
         triangles.len() / 3,
         &faces[2],
+        &links,
     );
     let r = search_from(
         points,
@@ -338,6 +344,7 @@ pub(crate) fn search_candidates(
         codes,
         qualities,
         m,
+        &links,
         watch,
         low,
         1_000_001,
@@ -359,6 +366,7 @@ pub(crate) fn search_candidates(
         codes,
         qualities,
         m,
+        &links,
         watch,
         1,
         low,

@@ -6,7 +6,6 @@ ghost use Rattle.fillings.specs.Tables.{All-below, Alive-from, Between, Least-s
 ghost use Rattle.trail.specs.State.{marks-of, owners-of, held-of, Coded, Sized-state, Trail-same};
 ghost use Rattle.pruning.specs.Pruned.{Prunable};
 ghost use Rattle.thresholds.specs.Begun.{Begun};
-use candidates::pairs::chain;
 use propagation::choose::choose_on_boundary;
 use pruning::prune::drop_below;
 use pruning::prune::prune_from;
@@ -217,14 +216,13 @@ pub fn opening(
     boundary: &[u16],
     n: usize,
     bound: &[u16],
+    links: &[[u16; 7280]; 2],
 ) -> u32
     requires { ⌜ Coded m (now codes) × (m ≤ length (now qualities)) × All-below 4096 n (now boundary) × (length (now bound) ≡ 4096) ⌝ }
     ensures { λ r. ⌜ (0 < r) × (r ≤ 1000000) ⌝ }
 {
-    let mut links = [[0u16; 7280]; 2];
-    chain(codes, m, &mut links);
     let mut state = [[0u16; 4096]; 4];
-    let q = upper_bound(codes, qualities, m, boundary, n, bound, &links, &mut state);
+    let q = upper_bound(codes, qualities, m, boundary, n, bound, links, &mut state);
     if q == 0 {
         return 1;
     }
