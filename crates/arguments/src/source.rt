@@ -8,58 +8,55 @@ ghost use mathlib.Core.Path.{_≡_};
 ghost use lib.ListN.{length};
 ghost use Rattle.streams.specs.Input.{Reads};
 
-fn shown(b: u8) -> u8 {
+// A byte of a name as it is said: a name may have any bytes, and what is said is one line all the same.
+fn shown(name: &[u8], i: usize) -> u8 {
+    if name.len() <= i {
+        return b'?';
+    }
+    let b = name[i];
     if (b < 32) | (b == 127) { b'?' } else { b }
 }
 
-// A name may have any bytes: what is said is one line all the same.
-fn hide_controls(name: &mut [u8]) {
-    for i in 0..name.len() {
-        let b = name[i];
-        name[i] = shown(b);
+// A name of an argument has 4,096 bytes at most. errno stays what it is: a write that succeeds leaves it.
+fn say_name(name: &[u8]) {
+    let mut out = [0u8; 4096];
+    for i in 0..4096 {
+        out[i] = shown(name, i);
     }
-}
-
-// errno stays what it is: a write that succeeds leaves it.
-fn say_name(name: &mut [u8]) {
-    hide_controls(name);
     io::write_all(STDERR_FILENO, b"cavity: ");
-    io::write_all(STDERR_FILENO, name);
+    let n = name.len();
+    if 4096 < n {
+        return;
+    }
+    io::write_all(STDERR_FILENO, &out[..n]);
 }
 
-fn read_standard(input: &mut [u8]) -> Input
-    ensures { λ r. ⌜ Reads r (now (input .exit)) ⌝ }
-{
-    let got = read_input(STDIN_FILENO, input);
-    if is_broken(got) {
+// Says that a read failed, where it did; of standard input for no name.
+fn say_broken(got: Input, name: &[u8]) {
+    let Input::Broken = got else {
+        return;
+    };
+    if name.len() == 0 {
         os::fail(b"cavity: the job was not read to its end");
+        return;
     }
-    got
+    say_name(name);
+    os::fail(b": the job was not read to its end");
 }
 
-fn is_broken(got: Input) -> bool {
-    match got {
-        Input::Whole(_) => false,
-        Input::Broken => true,
-    }
-}
-
-fn read_open(fd: i32, name: &mut [u8], input: &mut [u8]) -> Input
+fn read_open(fd: i32, name: &[u8], input: &mut [u8]) -> Input
     ensures { λ r. ⌜ Reads r (now (input .exit)) ⌝ }
 {
     let got = read_input(fd, input);
-    if is_broken(got) {
-        say_name(name);
-        os::fail(b": the job was not read to its end");
-    }
+    say_broken(got, name);
     got
 }
 
-fn read_named(name: &mut [u8], input: &mut [u8]) -> Input
+fn read_named(name: &[u8], input: &mut [u8]) -> Input
     ensures { λ r. ⌜ Reads r (now (input .exit)) ⌝ }
 {
     if check::same(name, b"-") {
-        return read_standard(input);
+        return read_open(STDIN_FILENO, b"", input);
     }
     let fd = os::open_read(name);
     if fd < 0 {
@@ -75,17 +72,17 @@ pub fn read_source(i: usize, input: &mut [u8]) -> Input
     ensures { λ r. ⌜ Reads r (now (input .exit)) ⌝ }
 {
     if i == 0 {
-        return read_standard(input);
+        return read_open(STDIN_FILENO, b"", input);
     }
     let mut name = io::buffer();
     let n = os::arg(i, &mut name);
-    read_named(&mut name[..n], input)
+    read_named(&name[..n], input)
 }
 
 // Says what is wrong with argument i, in a line that begins with it.
 pub fn complain(i: usize, what: &[u8]) {
     let mut name = io::buffer();
     let n = os::arg(i, &mut name);
-    say_name(&mut name[..n]);
+    say_name(&name[..n]);
     io::write_all(STDERR_FILENO, what);
 }

@@ -11,46 +11,25 @@ use arguments::source::read_source;
 use streams::input::Input;
 use streams::output::write_output;
 use words::sentence::say_refusal;
-ghost use mathlib.Core.Path.{_≡_};
-ghost use lib.ListN.{length};
-
-// One byte more than a text may have: a longer one is seen to be too long, and is not read to its end.
-fn input_buffer() -> [u8; 65537]
-    ensures { λ r. ⌜ 65537 ≡ length r ⌝ }
-{
-    [0; 65537]
-}
-
-// Room for every printout.
-fn output_buffer() -> [u8; 43695]
-    ensures { λ r. ⌜ 43695 ≡ length r ⌝ }
-{
-    [0; 43695]
-}
-
-fn is_refusal(printout: &[u8]) -> bool {
-    if printout.len() == 0 {
-        return false;
-    }
-    printout[0] == b'R'
-}
 
 // Writes the printout of a job's whole text; where words are asked for, a refusal is also said in a sentence, on standard error.
 fn print_answer(text: &[u8], words: bool) {
-    let mut output = output_buffer();
+    // Room for every printout.
+    let mut output = [0u8; 43695];
     let n = print_text(text, &mut output);
     if !write_output(&output[..n]) {
         os::fail(b"cavity: the answer was not written to its end");
         return;
     }
-    if words & is_refusal(&output[..n]) {
+    if words & (output[0] == b'R') {
         say_refusal(text);
     }
 }
 
 // Reads a job and prints its answer.
 fn run(o: Options) {
-    let mut input = input_buffer();
+    // One byte more than a text may have: a longer one is seen to be too long, and is not read to its end.
+    let mut input = [0u8; 65537];
     let file = o.file;
     let words = o.words;
     match read_source(file, &mut input) {

@@ -1,20 +1,42 @@
 -- What the judge's functions ask of each other, and the judge's answer. Assumes nothing.
 use mathlib.Core.Path.{_≡_, refl, sym, _∙_}
-use mathlib.Core.Bool.{true}
-use mathlib.Core.List.{List}
+use mathlib.Core.Bool.{Bool, true, false, _&&_, _||_}
+use mathlib.Core.List.{List, [], _∷_}
 use Prim.Native.Nat.{ℕ, zero, suc, _%_}
 use native.Mathlib.Omega.{arith}
 use native.Mathlib.Decide.{ℕ-discrete}
 use borrow.Author.Tests.{eq-eqb, ne-eqb}
 use lib.ListN.{length}
 use Rattle.geometry.specs.Space.{points-in}
-use Rattle.laws.specs.Laws.{Job, law-1, broken, worst, lawful}
+use Rattle.geometry.specs.declared.tetrahedron.Four.{Four}
+use Rattle.laws.specs.Laws.{Job, law-1, corner-of, is-corner, holds-edge, broken, worst, lawful}
 use Rattle.laws.specs.Lists.{Lists, with-table}
 use Rattle.laws.specs.Check.{job, job-refusal}
 use Rattle.judge.specs.Judge.{judged, Judge-as, Judge-says}
 use Rattle.laws.specs.inner.ListedFours.{fours-listed}
+use Rattle.laws.proofs.Basics.Passes.{Test, Two-tests}
 use Rattle.laws.proofs.Choice.Conditions.{keeps}
 use Rattle.laws.proofs.Judge.LawChain.{sees-worst}
+
+-- ---- laws 1 and 6 as the loops test them
+pub as-one : {rest here next later : Bool} → Two-tests rest here next later → Test rest (here && next) later
+as-one {rest} {here} {next} {later} t = record { is = t .is ∙ go here }
+  where
+    go : (b : Bool) → (b && (next && later)) ≡ ((b && next) && later)
+    go true = refl
+    go false = refl
+
+pub both-are : {r s here next : Bool} → r ≡ here → s ≡ next → (r && s) ≡ (here && next)
+both-are e f = rw (e, f) refl
+
+pub edge-to-itself : (p : ℕ) (fs : List Four) → holds-edge (record { a = p; b = p }) fs ≡ is-corner p fs
+unfolding holds-edge is-corner
+edge-to-itself p [] = refl
+edge-to-itself p (f ∷ fs) = rw (twice (corner-of p f), edge-to-itself p fs) refl
+  where
+    twice : (b : Bool) → (b && b) ≡ b
+    twice true = refl
+    twice false = refl
 
 -- ---- the length of the list
 pub part-of-a-four : (j : Job) (ls : List ℕ) → (length ls % 4 ≡ 0 → ⊥) → 1 ≡ judged j ls

@@ -4,7 +4,7 @@ use crate::fours::four_at;
 use checker::list::byte;
 use geometry::tetrahedron::Four;
 ghost use mathlib.Core.Path.{_≡_};
-ghost use Rattle.laws.specs.Laws.{corner-of, is-corner, corners-from, holds-edge, all-kept};
+ghost use Rattle.laws.specs.Laws.{corner-of, corners-from, holds-edge, all-kept};
 ghost use Rattle.laws.specs.inner.Listed.{kept-in};
 ghost use Rattle.laws.specs.inner.ListedFours.{fours-listed};
 
@@ -13,30 +13,6 @@ pub fn has_corner(f: Four, p: usize) -> bool
     ensures { λ r. ⌜ r ≡ corner-of p f ⌝ }
 {
     ((p == f.a) | (p == f.b)) | ((p == f.c) | (p == f.d))
-}
-
-// Whether the point p is a corner of a four of the list.
-fn is_corner(list: &[u8], p: usize) -> bool
-    ensures { λ r. ⌜ r ≡ is-corner p (fours-listed (now (list .entry))) ⌝ }
-{
-    for i in 0..list.len() / 4 {
-        if has_corner(four_at(list, i), p) {
-            return true;
-        }
-    }
-    false
-}
-
-// Law 6, for n points.
-pub(crate) fn keeps_corners(list: &[u8], n: usize) -> bool
-    ensures { λ r. ⌜ r ≡ corners-from n 0 (fours-listed (now (list .entry))) ⌝ }
-{
-    for p in 0..n {
-        if !is_corner(list, p) {
-            return false;
-        }
-    }
-    true
 }
 
 // Whether the edge between the points a and b is an edge of a four of the list.
@@ -52,12 +28,25 @@ fn holds_edge(list: &[u8], a: usize, b: usize) -> bool
     false
 }
 
+// Law 6, for n points: a point is a corner where the edge from it to itself is held.
+pub(crate) fn keeps_corners(list: &[u8], n: usize) -> bool
+    ensures { λ r. ⌜ r ≡ corners-from n 0 (fours-listed (now (list .entry))) ⌝ }
+{
+    for p in 0..n {
+        if !holds_edge(list, p, p) {
+            return false;
+        }
+    }
+    true
+}
+
 // Law 7.
 pub(crate) fn keeps_edges(kept: &[u8], list: &[u8]) -> bool
     ensures { λ r. ⌜ r ≡ all-kept (kept-in (now (kept .entry))) (fours-listed (now (list .entry))) ⌝ }
 {
     for i in 0..kept.len() / 2 {
-        if !holds_edge(list, byte(kept, i * 2), byte(kept, i * 2 + 1)) {
+        let at = i * 2;
+        if !holds_edge(list, byte(kept, at), byte(kept, at + 1)) {
             return false;
         }
     }

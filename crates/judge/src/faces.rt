@@ -54,9 +54,10 @@ pub fn raise_boundary(triangles: &[u8], flags: &mut [u8; 4096])
     let mut i = triangles.len() / 3;
     while 0 < i {
         i -= 1;
-        let a = byte(triangles, i * 3);
-        let b = byte(triangles, i * 3 + 1);
-        let c = byte(triangles, i * 3 + 2);
+        let at = i * 3;
+        let a = byte(triangles, at);
+        let b = byte(triangles, at + 1);
+        let c = byte(triangles, at + 2);
         raise(flags, a, b, c);
     }
 }
@@ -67,9 +68,10 @@ fn covers_boundary(triangles: &[u8], flags: &[u8; 4096]) -> bool
     ensures { λ r. ⌜ r ≡ all-flagged (triangles-in (now (triangles .entry))) (now (flags .entry)) ⌝ }
 {
     for i in 0..triangles.len() / 3 {
-        let a = byte(triangles, i * 3);
-        let b = byte(triangles, i * 3 + 1);
-        let c = byte(triangles, i * 3 + 2);
+        let at = i * 3;
+        let a = byte(triangles, at);
+        let b = byte(triangles, at + 1);
+        let c = byte(triangles, at + 2);
         if !is_flagged(flags, a, b, c) {
             return false;
         }

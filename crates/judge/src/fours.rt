@@ -15,10 +15,11 @@ pub fn four_at(list: &[u8], i: usize) -> Four
     requires { ⌜ i < length (now list) / 4 ⌝ }
     ensures { λ r. ⌜ r ≡ four-at (now (list .entry)) i ⌝ }
 {
-    let a = byte(list, i * 4);
-    let b = byte(list, i * 4 + 1);
-    let c = byte(list, i * 4 + 2);
-    let d = byte(list, i * 4 + 3);
+    let at = i * 4;
+    let a = byte(list, at);
+    let b = byte(list, at + 1);
+    let c = byte(list, at + 2);
+    let d = byte(list, at + 3);
     Four { a, b, c, d }
 }
 
@@ -54,10 +55,7 @@ pub(crate) fn keeps_order(list: &[u8], n: usize) -> bool
     ensures { λ r. ⌜ r ≡ law-1 n (fours-listed (now (list .entry))) ⌝ }
 {
     for i in 0..list.len() / 4 {
-        if !is_well_formed(four_at(list, i), n) {
-            return false;
-        }
-        if !is_followed(list, i) {
+        if !(is_well_formed(four_at(list, i), n) & is_followed(list, i)) {
             return false;
         }
     }

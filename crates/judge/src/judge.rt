@@ -34,31 +34,25 @@ pub(crate) fn lowest_broken(
     ensures { λ r. ⌜ r ≡ judged (job (job-lists (now (points .entry)) (now (triangles .entry)) (now (kept .entry)) (now (table .entry)))) (now (list .entry)) ⌝ }
 {
     let n = points.len() / 3;
+    let mut law = 0;
     if list.len() % 4 != 0 {
-        return 1;
+        law = 1;
+    } else if !keeps_order(list, n) {
+        law = 1;
+    } else if !keeps_quality(points, table, list) {
+        law = 2;
+    } else if !keeps_points_out(points, list) {
+        law = 3;
+    } else if !keeps_faces(points, triangles, list) {
+        law = 4;
+    } else if !keeps_apart(points, list) {
+        law = 5;
+    } else if !keeps_corners(list, n) {
+        law = 6;
+    } else if !keeps_edges(kept, list) {
+        law = 7;
     }
-    if !keeps_order(list, n) {
-        return 1;
-    }
-    if !keeps_quality(points, table, list) {
-        return 2;
-    }
-    if !keeps_points_out(points, list) {
-        return 3;
-    }
-    if !keeps_faces(points, triangles, list) {
-        return 4;
-    }
-    if !keeps_apart(points, list) {
-        return 5;
-    }
-    if !keeps_corners(list, n) {
-        return 6;
-    }
-    if !keeps_edges(kept, list) {
-        return 7;
-    }
-    0
+    law
 }
 
 // THE JUDGE: the number that refuses the job, else the lowest law that the list breaks, else its worst quality.

@@ -3,7 +3,6 @@
 use geometry::tetrahedron::Four;
 use parsing::line::line_in;
 ghost use mathlib.Core.Path.{_≡_};
-ghost use Rattle.laws.specs.Fours.{same-four};
 ghost use Rattle.text.specs.Text.{fields-of, line-in};
 ghost use Rattle.text.specs.inner.Tables.{whole, four-of};
 ghost use Rattle.text_places.specs.inner.Walks.{Q-read, four-wanted, wanted};
@@ -41,12 +40,6 @@ pub(crate) fn q_line(line: &[u8]) -> QLine
     }
 }
 
-fn is_same_four(f: Four, g: Four) -> bool
-    ensures { λ r. ⌜ r ≡ same-four f g ⌝ }
-{
-    ((f.a == g.a) & (f.b == g.b)) & ((f.c == g.c) & (f.d == g.d))
-}
-
 // What a Q line is looked for: one for an absent four of n points, or one for the four f.
 pub(crate) struct Want {
     pub(crate) absent: bool,
@@ -61,7 +54,7 @@ fn is_four_wanted(w: Want, g: Four) -> bool
     if w.absent {
         return w.n <= g.d;
     }
-    is_same_four(f, g)
+    ((f.a == g.a) & (f.b == g.b)) & ((f.c == g.c) & (f.d == g.d))
 }
 
 // Whether the line is such a Q line.

@@ -52,21 +52,17 @@ fn form_place(text: &[u8]) -> TextPlace
     TextPlace::Unended
 }
 
-fn no_four() -> Four {
-    Four {
-        a: 0,
-        b: 0,
-        c: 0,
-        d: 0,
-    }
-}
-
 // The place for number 11; what the lists say where no line is found.
 fn table_place(text: &[u8], n: usize, p: Placed) -> TextPlace
     requires { ⌜ (text-refusal (now text) ≡ 11) × (n ≡ points-of (now text)) × Lists-at (now text) p ⌝ }
     ensures { λ r. ⌜ Text-fault (now (text .entry)) r ⌝ }
 {
-    let f = no_four();
+    let f = Four {
+        a: 0,
+        b: 0,
+        c: 0,
+        d: 0,
+    };
     let s = wanted_line(text, 0, 0, Want { absent: true, n, f });
     if s.ok {
         return TextPlace::Absent(Line {

@@ -1,144 +1,126 @@
 // What is wrong with a line that is not of the form: the number of its words.
-use crate::phrase::BLANK;
-use crate::phrase::BYTE;
-use crate::phrase::EMPTY;
-use crate::phrase::FIELDS;
-use crate::phrase::LETTER;
-use crate::phrase::LONG;
-use crate::phrase::MINUS;
-use crate::phrase::MISSING;
-use crate::phrase::ORDER;
-use crate::phrase::RETURN;
-use crate::phrase::RISING;
-use crate::phrase::ZERO;
 use parsing::field::find;
 use parsing::line::line_in;
 
-// A field that is a number.
-const NOTHING: usize = 0;
+// Numbers of words in `say_refusal`.
+const ORDER: usize = 15;
 
-fn has(line: &[u8], b: u8) -> bool {
-    find(line, 0, b) < line.len()
-}
+const EMPTY: usize = 16;
 
-// One more for a comma; a hundred are too many for every line.
-fn with_byte(n: usize, b: u8) -> usize {
-    if 100 <= n {
-        return n;
-    }
-    if b == 44 { n + 1 } else { n }
-}
+const RETURN: usize = 17;
 
-fn commas(line: &[u8]) -> usize {
-    let mut n: usize = 0;
-    for i in 0..line.len() {
-        n = with_byte(n, line[i]);
-    }
-    n
-}
+const BLANK: usize = 18;
 
-// How many numbers a line that begins so has; 0 where the letter has no kind.
-fn width(letter: u8) -> usize {
-    match letter {
-        80 => 3,
-        84 => 3,
-        69 => 2,
-        81 => 5,
-        _ => 0,
-    }
-}
+const LETTER: usize = 19;
 
-fn are_digits(word: &[u8]) -> bool {
-    for i in 0..word.len() {
+const FIELDS: usize = 20;
+
+const MISSING: usize = 21;
+
+const MINUS: usize = 22;
+
+const BYTE: usize = 23;
+
+const LONG: usize = 24;
+
+const ZERO: usize = 25;
+
+const RISING: usize = 26;
+
+// The first place at or after `from` that has no digit; the end where there is none.
+fn digits_end(word: &[u8], from: usize) -> usize {
+    let mut i = from;
+    while i < word.len() {
         let b = word[i];
         if (b < 48) | (57 < b) {
-            return false;
+            return i;
         }
+        i += 1;
     }
-    true
+    i
 }
 
+// What is wrong with digits.
 fn digits_fault(word: &[u8]) -> usize {
-    if word.len() == 0 {
+    let n = word.len();
+    if n == 0 {
         return MISSING;
     }
-    if !are_digits(word) {
+    if digits_end(word, 0) < n {
         return BYTE;
     }
-    if 7 < word.len() {
+    if 7 < n {
         return LONG;
     }
-    if (word[0] == 48) & (1 < word.len()) {
-        return ZERO;
+    if (word[0] == 48) & (1 < n) {
+        ZERO
+    } else {
+        RISING
     }
-    NOTHING
 }
 
-// What stands behind a minus.
-fn negative_fault(digits: &[u8]) -> usize {
-    if digits.len() == 0 {
-        return MISSING;
+// What is wrong with a field, RISING for nothing; what was wrong before it comes first.
+fn word_fault(word: &[u8], signed: bool, before: usize) -> usize {
+    if before != RISING {
+        return before;
     }
-    if digits[0] == 48 {
-        return MINUS;
-    }
-    digits_fault(digits)
-}
-
-fn word_fault(word: &[u8], signed: bool) -> usize {
     if word.len() == 0 {
         return MISSING;
     }
-    if word[0] == 45 {
-        if !signed {
-            return MINUS;
-        }
-        return negative_fault(&word[1..]);
+    if word[0] != 45 {
+        return digits_fault(word);
     }
-    digits_fault(word)
+    if !signed {
+        return MINUS;
+    }
+    if (1 < word.len()) & (find(word, 0, 48) == 1) {
+        return MINUS;
+    }
+    digits_fault(&word[1..])
 }
 
-// The first field that is no number.
-fn field_fault(line: &[u8], signed: bool) -> usize {
+// What is wrong with so many fields, and otherwise with the first that is no number.
+fn fields_fault(line: &[u8], count: usize, signed: bool) -> usize {
     let mut at: usize = 2;
+    let mut left = count;
+    let mut fault = RISING;
     while at <= line.len() {
         let stop = find(line, at, 44);
-        let f = word_fault(&line[at..stop], signed);
-        if f != NOTHING {
-            return f;
+        fault = word_fault(&line[at..stop], signed, fault);
+        if left == 0 {
+            return FIELDS;
         }
+        left -= 1;
         at = stop + 1;
     }
-    RISING
+    if left == 0 { fault } else { FIELDS }
 }
 
-// A line that has a letter, and no CR or blank.
+// A line without CR and blank.
 fn kind_fault(line: &[u8]) -> usize {
     if line.len() < 2 {
         return LETTER;
     }
-    let letter = line[0];
-    if (width(letter) == 0) | (line[1] != 44) {
+    let kind = find(b"PTEQ", 0, line[0]);
+    if (kind == 4) | (line[1] != 44) {
         return LETTER;
     }
-    if commas(line) != width(letter) {
-        return FIELDS;
-    }
-    field_fault(line, letter == 80)
+    let widths = [3usize, 3, 2, 5, 0];
+    fields_fault(line, widths[kind], kind == 0)
 }
 
 pub(crate) fn line_fault(line: &[u8]) -> usize {
-    let l = line_in(line);
-    if l.ok {
+    let n = line.len();
+    if line_in(line).ok {
         return ORDER;
     }
-    if line.len() == 0 {
+    if n == 0 {
         return EMPTY;
     }
-    if has(line, 13) {
+    if find(line, 0, 13) < n {
         return RETURN;
     }
-    if has(line, 32) | has(line, 9) {
+    if (find(line, 0, 32) < n) | (find(line, 0, 9) < n) {
         return BLANK;
     }
     kind_fault(line)

@@ -2,6 +2,5 @@
 // Assumes nothing; no public function has a `requires`.
 mod fault;
 mod line;
-mod listed;
-mod phrase;
 pub mod sentence;
+mod writing;

@@ -1,35 +1,35 @@
-// Lines of a text, and writing them to standard error.
-use crate::phrase::CLOSE;
-use crate::phrase::LINE;
-use crate::phrase::MORE;
-use crate::phrase::OPEN;
-use crate::phrase::put;
-use crate::phrase::put_number;
-use crate::phrase::say;
+// Lines of a text.
+use libc::STDERR_FILENO;
 use parsing::field::find;
-ghost use Rattle.io.specs.Counts.{Counts};
+use parsing::line::line_in;
 
-fn shown(b: u8) -> u8 {
+// A line by its number, from 1, and the place of its first byte; number 0 for none.
+pub(crate) struct Found {
+    pub(crate) number: usize,
+    pub(crate) start: usize,
+}
+
+// A byte of a line as it is shown, with a mark for one that cannot be.
+fn shown(line: &[u8], i: usize) -> u8 {
+    if line.len() <= i {
+        return b'?';
+    }
+    let b = line[i];
     if (b < 32) | (126 < b) { b'?' } else { b }
 }
 
-// The first bytes of a line, 60 at most, with a mark for each that cannot be shown.
-fn clip(line: &[u8], out: &mut [u8]) -> usize
-    ensures { λ r. ⌜ Counts r (now (out .exit)) ⌝ }
-{
-    let mut n: usize = 0;
-    while n < 60 {
-        if line.len() <= n {
-            return n;
-        }
-        if out.len() <= n {
-            return n;
-        }
-        let b = line[n];
-        out[n] = shown(b);
-        n += 1;
+// Writes a line, and of one over 60 bytes those and two dots.
+pub(crate) fn put_clipped(line: &[u8]) {
+    let mut out = [b'.'; 62];
+    for i in 0..60 {
+        out[i] = shown(line, i);
     }
-    n
+    let n = line.len();
+    if n <= 60 {
+        io::write_all(STDERR_FILENO, &out[..n]);
+        return;
+    }
+    io::write_all(STDERR_FILENO, &out);
 }
 
 // The line that begins at `start`, without its LF.
@@ -41,20 +41,30 @@ pub(crate) fn line_at(text: &[u8], start: usize) -> &[u8] {
     &text[start..end]
 }
 
-fn put_clipped(line: &[u8]) {
-    let mut out = io::buffer();
-    let n = clip(line, &mut out);
-    put(&out[..n]);
-    if 60 < line.len() {
-        say(MORE);
-    }
+// Whether a line is of the kind, where 4 stands for every line; of Q lines only one whose quality is too large.
+fn is_sought(line: &[u8], kind: usize) -> bool {
+    let l = line_in(line);
+    let values = l.values;
+    (kind == 4) | ((kind == l.kind) & ((kind != 3) | (1000000 < values[4])))
 }
 
-// Line `number`, counted from 1, and what it holds.
-pub(crate) fn put_line(text: &[u8], number: usize, start: usize) {
-    say(LINE);
-    put_number(number);
-    say(OPEN);
-    put_clipped(line_at(text, start));
-    say(CLOSE);
+// The i-th line of the kind.
+pub(crate) fn nth_line(text: &[u8], kind: usize, i: usize) -> Found {
+    let mut at: usize = 0;
+    let mut number: usize = 1;
+    let mut left = i;
+    while at < text.len() {
+        if is_sought(line_at(text, at), kind) {
+            if left == 0 {
+                return Found { number, start: at };
+            }
+            left -= 1;
+        }
+        at = find(text, at, 10) + 1;
+        number += 1;
+    }
+    Found {
+        number: 0,
+        start: 0,
+    }
 }

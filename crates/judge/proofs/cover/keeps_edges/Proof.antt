@@ -21,14 +21,11 @@ abbrev μ-loop : tie.MeasureT-loop
 loop-holds : tie.Need-loop-holds Inv-loop μ-loop
 loop-holds c = (omega arith, refl, ap (λ es. all-kept es (fours-listed (c .before .before .args .list .now))) (edges-start (c .before .before .args .kept .now)))
 
-mul-byte : tie.Need-mul-byte Inv-loop μ-loop
-mul-byte c = omega arith
+mul-at : tie.Need-mul-at Inv-loop μ-loop
+mul-at c = omega arith
 
 byte-requires : tie.Need-byte-requires Inv-loop μ-loop
 byte-requires c κs = omega arith
-
-mul-byte-2 : tie.Need-mul-byte-2 Inv-loop μ-loop
-mul-byte-2 c = omega arith
 
 add-byte : tie.Need-add-byte Inv-loop μ-loop
 add-byte c = omega arith
@@ -65,9 +62,8 @@ keeps-edges-spec =
     Inv-loop
     μ-loop
     loop-holds
-    mul-byte
+    mul-at
     byte-requires
-    mul-byte-2
     add-byte
     byte-requires-2
     holds-edge-requires

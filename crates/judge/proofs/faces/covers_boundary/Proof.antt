@@ -21,23 +21,17 @@ abbrev μ-loop : tie.MeasureT-loop
 loop-holds : tie.Need-loop-holds Inv-loop μ-loop
 loop-holds c = (omega arith, refl, ap (λ ts. all-flagged ts (c .before .args .flags .now)) (tris-start (c .before .args .triangles .now)))
 
-mul-byte : tie.Need-mul-byte Inv-loop μ-loop
-mul-byte c = omega arith
+mul-at : tie.Need-mul-at Inv-loop μ-loop
+mul-at c = omega arith
 
 byte-requires : tie.Need-byte-requires Inv-loop μ-loop
 byte-requires c κs = omega arith
-
-mul-byte-2 : tie.Need-mul-byte-2 Inv-loop μ-loop
-mul-byte-2 c = omega arith
 
 add-byte : tie.Need-add-byte Inv-loop μ-loop
 add-byte c = omega arith
 
 byte-requires-2 : tie.Need-byte-requires-2 Inv-loop μ-loop
 byte-requires-2 c κs = omega arith
-
-mul-byte-3 : tie.Need-mul-byte-3 Inv-loop μ-loop
-mul-byte-3 c = omega arith
 
 add-byte-2 : tie.Need-add-byte-2 Inv-loop μ-loop
 add-byte-2 c = omega arith
@@ -79,12 +73,10 @@ covers-boundary-spec =
     Inv-loop
     μ-loop
     loop-holds
-    mul-byte
+    mul-at
     byte-requires
-    mul-byte-2
     add-byte
     byte-requires-2
-    mul-byte-3
     add-byte-2
     byte-requires-3
     is-flagged-requires

@@ -22,23 +22,17 @@ loop-holds c = (omega arith, bound-none (c .before .args .triangles .now) (lengt
 sub-i : tie.Need-sub-i Inv-loop μ-loop
 sub-i c = omega arith
 
-mul-byte : tie.Need-mul-byte Inv-loop μ-loop
-mul-byte c = omega arith
+mul-at : tie.Need-mul-at Inv-loop μ-loop
+mul-at c = omega arith
 
 byte-requires : tie.Need-byte-requires Inv-loop μ-loop
 byte-requires c κs = omega arith
-
-mul-byte-2 : tie.Need-mul-byte-2 Inv-loop μ-loop
-mul-byte-2 c = omega arith
 
 add-byte : tie.Need-add-byte Inv-loop μ-loop
 add-byte c = omega arith
 
 byte-requires-2 : tie.Need-byte-requires-2 Inv-loop μ-loop
 byte-requires-2 c κs = omega arith
-
-mul-byte-3 : tie.Need-mul-byte-3 Inv-loop μ-loop
-mul-byte-3 c = omega arith
 
 add-byte-2 : tie.Need-add-byte-2 Inv-loop μ-loop
 add-byte-2 c = omega arith
@@ -71,12 +65,10 @@ raise-boundary-spec =
     μ-loop
     loop-holds
     sub-i
-    mul-byte
+    mul-at
     byte-requires
-    mul-byte-2
     add-byte
     byte-requires-2
-    mul-byte-3
     add-byte-2
     byte-requires-3
     raise-requires

@@ -7,7 +7,7 @@ use Rattle.judge.proofs.judge.judge.Statement.{statement}
 use Rattle.judge.proofs.judge.judge.Tie as tie
 
 check-job-requires : tie.Need-check-job-requires
-check-job-requires c κs = search needs
+check-job-requires c κs = tt
 
 returns : tie.Need-returns
 returns c =

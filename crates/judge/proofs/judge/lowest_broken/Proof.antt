@@ -13,7 +13,6 @@ use Rattle.laws.proofs.Checker.Chain.{stop, pass}
 use Rattle.laws.proofs.Judge.LawChain.{at-1, at-2, at-3, at-4, at-5, at-6, at-7, after-1, after-2, after-3, after-4, after-5, after-6}
 use Rattle.laws.proofs.Checker.AcceptedJob.{accepted-table, accepted-triangles, listed-in-order}
 use Rattle.judge.proofs.Judging.{part-of-a-four, whole-fours}
-use borrow.Author.Needs.{needs}
 use Rattle.judge.proofs.judge.lowest_broken.Statement.{statement}
 use Rattle.judge.proofs.judge.lowest_broken.Tie as tie
 
@@ -65,7 +64,7 @@ returns : tie.Need-returns
 returns c = part-of-a-four (the-job (c .before .before .before .before)) (c .before .before .before .before .args .list .now) (c .if1 .taken)
 
 keeps-order-requires : tie.Need-keeps-order-requires
-keeps-order-requires c κs = search needs
+keeps-order-requires c κs = tt
 
 returns-2 : tie.Need-returns-2
 returns-2 c = stop (left-1 (c .before .before)) (at-1 (the-lists (c .before .before .before .before .before .before)) (fours (c .before .before .before .before .before .before))) (ap not (c .before .keeps-order .ensures)) (c .if2 .taken)
@@ -95,13 +94,13 @@ returns-6 : tie.Need-returns-6
 returns-6 c = stop (left-5 (c .before .before)) (at-5 (the-lists (c .before .before .before .before .before .before .before .before .before .before .before .before .before .before)) (fours (c .before .before .before .before .before .before .before .before .before .before .before .before .before .before))) (ap not (c .before .keeps-apart .ensures)) (c .if6 .taken)
 
 keeps-corners-requires : tie.Need-keeps-corners-requires
-keeps-corners-requires c κs = search needs
+keeps-corners-requires c κs = tt
 
 returns-7 : tie.Need-returns-7
 returns-7 c = stop (left-6 (c .before .before)) (at-6 (the-lists (c .before .before .before .before .before .before .before .before .before .before .before .before .before .before .before .before)) (fours (c .before .before .before .before .before .before .before .before .before .before .before .before .before .before .before .before))) (ap not (c .before .keeps-corners .ensures)) (c .if7 .taken)
 
 keeps-edges-requires : tie.Need-keeps-edges-requires
-keeps-edges-requires c κs = search needs
+keeps-edges-requires c κs = tt
 
 returns-8 : tie.Need-returns-8
 returns-8 c = stop (left-7 (c .before .before)) (at-7 (the-lists (c .before .before .before .before .before .before .before .before .before .before .before .before .before .before .before .before .before .before)) (fours (c .before .before .before .before .before .before .before .before .before .before .before .before .before .before .before .before .before .before))) (ap not (c .before .keeps-edges .ensures)) (c .if8 .taken)
@@ -113,19 +112,19 @@ pub lowest-broken-spec : {M : Type 1} → statement M
 lowest-broken-spec =
     tie.close
     (tie.spec
-    returns
     keeps-order-requires
-    returns-2
     keeps-quality-requires
-    returns-3
     keeps-points-out-requires
-    returns-4
     keeps-faces-requires
-    returns-5
     keeps-apart-requires
-    returns-6
     keeps-corners-requires
-    returns-7
     keeps-edges-requires
+    returns
+    returns-2
+    returns-3
+    returns-4
+    returns-5
+    returns-6
+    returns-7
     returns-8
     returns-9)

@@ -7,16 +7,13 @@ use borrow.Author.Needs.{needs}
 use Rattle.text_places.proofs.refusal.table_place.Statement.{statement}
 use Rattle.text_places.proofs.refusal.table_place.Tie as tie
 
-no-four-requires : tie.Need-no-four-requires
-no-four-requires c κs = search needs
-
 wanted-line-requires : tie.Need-wanted-line-requires
 wanted-line-requires c κs = search needs
 
 returns : tie.Need-returns
 unfolding Text-fault
 returns c =
-    let s = c .before .before .before .before in
+    let s = c .before .before .before in
     let w = c .before .wanted-line .ensures in
     let i = c .before .wanted-line .result .number in
     (s .pre .0, rw (sym (s .pre .1)) (sym (wanted-absent (s .args .n) i _ (text-lines (s .args .text .now))) ∙ w .there (c .if1 .taken)), w .start (c .if1 .taken))
@@ -27,15 +24,15 @@ doubled-requires c κs = search needs
 returns-2 : tie.Need-returns-2
 unfolding Text-fault
 returns-2 c =
-    let s = c .before .before .before .before .before .before in
+    let s = c .before .before .before .before .before in
     let d = c .before .doubled .ensures in
     (s .pre .0, d .both (c .if2 .taken), d .start (c .if2 .taken))
 
 returns-3 : tie.Need-returns-3
 unfolding Text-fault
-returns-3 c = c .before .before .before .before .before .before .pre .2
+returns-3 c = c .before .before .before .before .before .pre .2
 
 pub table-place-spec : {M : Type 1} → statement M
 table-place-spec =
     tie.close
-    (tie.spec no-four-requires wanted-line-requires returns doubled-requires returns-2 returns-3)
+    (tie.spec wanted-line-requires returns doubled-requires returns-2 returns-3)
