@@ -14,6 +14,7 @@ use lines::tally::print;
 use lines::tally::print_count;
 use lines::text::after;
 use lines::text::before;
+use lines::text::part;
 use lines::text::past;
 
 // v, and 0 where v is negative.
@@ -59,32 +60,49 @@ fn in_order(f: Four, k: usize) -> Four {
     let d = f.d;
     match k {
         0 => f,
-        1 => four(a, c, b, d),
-        2 => four(a, c, d, b),
-        3 => four(d, a, b, c),
-        4 => four(c, a, d, b),
-        _ => four(c, d, a, b),
+        1 => Four { a, b: c, c: b, d },
+        2 => Four {
+            a,
+            b: c,
+            c: d,
+            d: b,
+        },
+        3 => Four {
+            a: d,
+            b: a,
+            c: b,
+            d: c,
+        },
+        4 => Four {
+            a: c,
+            b: a,
+            c: d,
+            d: b,
+        },
+        _ => Four {
+            a: c,
+            b: d,
+            c: a,
+            d: b,
+        },
     }
 }
 
-fn four(a: usize, b: usize, c: usize, d: usize) -> Four {
-    Four { a, b, c, d }
-}
-
-// Whether the answer is the same in each of 36 orders of the corners.
+// Whether the answer is the same whichever is named first, in each of 36 orders of the corners.
 fn is_same_in_order(points: &[i32], f: Four, g: Four, answer: i32) -> bool {
     for k in 0..36 {
-        if apart(points, in_order(f, k / 6), in_order(g, k % 6)) != answer {
+        let s = in_order(f, k / 6);
+        let t = in_order(g, k % 6);
+        if (apart(points, s, t) != answer) | (apart(points, t, s) != answer) {
             return false;
         }
     }
     true
 }
 
-// The answer is the same whichever is named first, and however the corners are ordered.
 fn print_apart(points: &[i32], f: Four, g: Four) {
     let answer = apart(points, f, g);
-    if !is_same_in_order(points, f, g, answer) || !is_same_in_order(points, g, f, answer) {
+    if !is_same_in_order(points, f, g, answer) {
         print(b"apart in some orders only\n");
         return;
     }
@@ -96,7 +114,7 @@ fn print_apart(points: &[i32], f: Four, g: Four) {
 }
 
 fn print_pair(points: &[i32], f: Four, g: Four) {
-    if !is_present(points, f) || !is_present(points, g) {
+    if !(is_present(points, f) & is_present(points, g)) {
         print(b": refused\n");
         return;
     }
@@ -108,20 +126,31 @@ fn print_pair(points: &[i32], f: Four, g: Four) {
     print_apart(points, f, g);
 }
 
+const FIRST: Four = Four {
+    a: 0,
+    b: 1,
+    c: 2,
+    d: 3,
+};
+
+const SECOND: Four = Four {
+    a: 4,
+    b: 5,
+    c: 6,
+    d: 7,
+};
+
 // NAME;COORDINATES: three a corner, four corners a tetrahedron. Other than eight points are refused.
 fn report(line: &[u8]) {
     print(before(line, b';'));
-    let mut points = [0i32; 24];
-    let read = integers(after(line, b';'), &mut points);
-    let n = read.n;
-    print_pair(&points[0..n], four(0, 1, 2, 3), four(4, 5, 6, 7));
+    let mut room = [0i32; 24];
+    print_pair(integers(after(line, b';'), &mut room), FIRST, SECOND);
 }
 
 pub fn report_all(text: &[u8]) {
-    let mut rest = text;
-    while rest.len() > 0 {
-        report(before(rest, b'\n'));
-        let from = past(rest, b'\n');
-        rest = &rest[from..];
+    let mut at: usize = 0;
+    while at < text.len() {
+        report(part(text, at, b'\n'));
+        at = past(text, at, b'\n');
     }
 }

@@ -6,10 +6,12 @@
 //   V;OPEN;CAVITY;POINTS      it is as before the operation but for its cavity;  M;POINTS;TETS  it has this mesh
 // A VALUE is POINTS;TETS;QUALITIES;OPEN;CAVITY;POINTS OF IT;COUNT; lists are parted by commas, a cavity is given by numbers.
 // Any other line is counted as unread and as different. Assumes nothing; any bytes may come.
+mod operation;
 mod session;
 
 ghost use mathlib.Core.Path.{_≡_};
 ghost use lib.ListN.{length};
+use bench_tally::tally::print_tally;
 use libc::STDIN_FILENO;
 use lines::tally::print;
 use session::tally_of;
@@ -31,6 +33,5 @@ fn main() {
         print(b"too many lines\n");
         return;
     }
-    let t = tally_of(&input[..n]);
-    t.print();
+    print_tally(tally_of(&input[..n]));
 }

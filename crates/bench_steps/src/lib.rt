@@ -1,3 +1,2 @@
-// A line of a bench session played: an operation, a value handed over, or a value compared. Assumes nothing; any bytes may come.
-pub mod operation;
+// A line of a bench session that is no operation: a value handed over, or compared. Assumes nothing; any bytes may come.
 pub mod step;

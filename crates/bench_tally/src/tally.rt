@@ -1,125 +1,114 @@
 // How many operations were played and values compared, and how many agree.
-use lines::tally::next;
+use lines::tally::Counts;
 use lines::tally::print;
 use lines::tally::print_count;
 
-// What a line comes to.
-pub enum Outcome {
-    // Not read: counted as different.
-    Unread,
-    // A value is handed over: nothing to compare.
-    Handed,
-    // Whether the bench is the line's value.
-    Compared(bool),
-    // The number that an operation gave, and the number that stands in the line.
-    Operated { number: u32, expected: u32 },
-}
+// Where is counted, in the order in which the counts are printed, but for the operations by the number they gave, which stand behind.
+const LINES: usize = 0;
 
-pub struct Tally {
-    pub lines: u64,
-    pub unread: u64,
-    pub loads: u64,
-    pub opens: u64,
-    pub grows: u64,
-    pub replaces: u64,
-    pub closes: u64,
-    // Operations by the number they gave.
-    pub numbers: [u64; 39],
-    pub values: u64,
-    pub agree: u64,
-    pub differ: u64,
-}
+const UNREAD: usize = 1;
+
+const LOADS: usize = 2;
+
+const OPENS: usize = 3;
+
+const GROWS: usize = 4;
+
+const REPLACES: usize = 5;
+
+const CLOSES: usize = 6;
+
+const VALUES: usize = 7;
+
+const AGREE: usize = 8;
+
+const DIFFER: usize = 9;
+
+const NUMBERS: usize = 10;
+
+const NOWHERE: usize = 64;
 
 // The most lines that are named as different.
 const NAMED: u64 = 5;
 
-impl Tally {
-    pub fn new() -> Self {
-        Tally {
-            lines: 0,
-            unread: 0,
-            loads: 0,
-            opens: 0,
-            grows: 0,
-            replaces: 0,
-            closes: 0,
-            numbers: [0; 39],
-            values: 0,
-            agree: 0,
-            differ: 0,
+// What a line comes to: where it is counted, besides the lines; the last is AGREE or DIFFER where something is compared.
+pub struct Outcome {
+    first: usize,
+    second: usize,
+    last: usize,
+}
+
+// Not read: counted as different.
+pub fn unread() -> Outcome {
+    Outcome {
+        first: UNREAD,
+        second: NOWHERE,
+        last: DIFFER,
+    }
+}
+
+// A value is handed over: nothing to compare.
+pub fn handed() -> Outcome {
+    Outcome {
+        first: NOWHERE,
+        second: NOWHERE,
+        last: NOWHERE,
+    }
+}
+
+// Whether the bench is the line's value.
+pub fn compared(is_same: bool) -> Outcome {
+    Outcome {
+        first: VALUES,
+        second: NOWHERE,
+        last: if is_same { AGREE } else { DIFFER },
+    }
+}
+
+// An operation by its letter, the number it gave, and whether that stands in the line.
+pub fn operated(letter: u8, number: u32, is_same: bool) -> Outcome {
+    let first = match letter {
+        b'L' => LOADS,
+        b'O' => OPENS,
+        b'G' => GROWS,
+        b'R' => REPLACES,
+        _ => CLOSES,
+    };
+    Outcome {
+        first,
+        second: NUMBERS + number as usize,
+        last: if is_same { AGREE } else { DIFFER },
+    }
+}
+
+// One more line.
+pub fn with_line(tally: Counts, o: Outcome) -> Counts {
+    let a = tally.more(LINES);
+    let b = a.more(o.first);
+    let c = b.more(o.second);
+    let all = c.more(o.last);
+    if (o.last == DIFFER) & (all.count(DIFFER) <= NAMED) {
+        print(b"differs: line ");
+        print_count(all.count(LINES), b"\n");
+    }
+    all
+}
+
+fn print_numbers(tally: Counts) {
+    for k in 0..39 {
+        let n = tally.count(NUMBERS + k);
+        if n > 0 {
+            print_count(n, b" gave ");
+            print_count(k as u64, b"\n");
         }
     }
+}
 
-    fn with_comparison(mut self, is_agreeing: bool) -> Self {
-        if is_agreeing {
-            self.agree = next(self.agree);
-            return self;
-        }
-        self.differ = next(self.differ);
-        if self.differ <= NAMED {
-            print(b"differs: line ");
-            print_count(self.lines, b"\n");
-        }
-        self
-    }
-
-    fn with_unread(mut self) -> Self {
-        self.unread = next(self.unread);
-        self.with_comparison(false)
-    }
-
-    fn with_value(mut self, is_agreeing: bool) -> Self {
-        self.values = next(self.values);
-        self.with_comparison(is_agreeing)
-    }
-
-    // An operation by its letter, the number it gave, and the number that stands in the line.
-    fn with_operation(mut self, letter: u8, number: u32, expected: u32) -> Self {
-        match letter {
-            b'L' => self.loads = next(self.loads),
-            b'O' => self.opens = next(self.opens),
-            b'G' => self.grows = next(self.grows),
-            b'R' => self.replaces = next(self.replaces),
-            _ => self.closes = next(self.closes),
-        }
-        let k = number as usize;
-        if k < 39 {
-            self.numbers[k] = next(self.numbers[k]);
-        }
-        self.with_comparison(number == expected)
-    }
-
-    // One more line, by its letter.
-    pub fn with_line(mut self, letter: u8, outcome: Outcome) -> Self {
-        self.lines = next(self.lines);
-        match outcome {
-            Outcome::Unread => self.with_unread(),
-            Outcome::Handed => self,
-            Outcome::Compared(is_same) => self.with_value(is_same),
-            Outcome::Operated { number, expected } => self.with_operation(letter, number, expected),
-        }
-    }
-
-    fn print_numbers(self) {
-        for k in 0..39 {
-            if self.numbers[k] > 0 {
-                print_count(self.numbers[k], b" gave ");
-                print_count(k as u64, b"\n");
-            }
-        }
-    }
-
-    pub fn print(self) {
-        print_count(self.lines, b" lines, ");
-        print_count(self.unread, b" unread\n");
-        print_count(self.loads, b" loads, ");
-        print_count(self.opens, b" opens, ");
-        print_count(self.grows, b" grows, ");
-        print_count(self.replaces, b" replaces, ");
-        print_count(self.closes, b" closes\n");
-        self.print_numbers();
-        print_count(self.values, b" values compared\n");
-        print_count(self.agree, b" agree, ");
-        print_count(self.differ, b" differ\n");
-    }
+pub fn print_tally(tally: Counts) {
+    tally.print(
+        LINES,
+        b" lines, ; unread\n; loads, ; opens, ; grows, ; replaces, ; closes\n;",
+    );
+    print_numbers(tally);
+    tally.print(VALUES, b" values compared\n; agree, ; differ\n;");
 }

@@ -2,36 +2,22 @@
 use bench::bench::Bench;
 use check::same;
 
-fn same_integers(a: &[i32], b: &[i32]) -> bool {
-    if a.len() != b.len() {
-        return false;
-    }
-    for i in 0..a.len() {
-        if a[i] != b[i] {
+fn same_points(p: [i32; 192], q: [i32; 192]) -> bool {
+    for i in 0..192 {
+        if p[i] != q[i] {
             return false;
         }
     }
     true
 }
 
-fn same_numbers(a: &[u32], b: &[u32]) -> bool {
-    if a.len() != b.len() {
-        return false;
-    }
-    for i in 0..a.len() {
-        if a[i] != b[i] {
+fn same_qualities(p: [u32; 256], q: [u32; 256]) -> bool {
+    for i in 0..256 {
+        if p[i] != q[i] {
             return false;
         }
     }
     true
-}
-
-fn same_lists(p: [i32; 192], q: [i32; 192], s: [u8; 1024], t: [u8; 1024]) -> bool {
-    same_integers(&p, &q) & same(&s, &t)
-}
-
-fn same_marks(c: [u8; 256], d: [u8; 256], p: [u8; 64], q: [u8; 64]) -> bool {
-    same(&c, &d) & same(&p, &q)
 }
 
 // Points and tetrahedra.
@@ -40,7 +26,10 @@ pub fn same_mesh(a: Bench, b: Bench) -> bool {
     let q = b.points;
     let s = a.tets;
     let t = b.tets;
-    (a.point_count == b.point_count) & ((a.tet_count == b.tet_count) & same_lists(p, q, s, t))
+    (a.point_count == b.point_count)
+        & (a.tet_count == b.tet_count)
+        & same_points(p, q)
+        & same(&s, &t)
 }
 
 fn same_cavity(a: Bench, b: Bench) -> bool {
@@ -48,12 +37,11 @@ fn same_cavity(a: Bench, b: Bench) -> bool {
     let d = b.in_cavity;
     let p = a.in_points;
     let q = b.in_points;
-    (a.open == b.open) & same_marks(c, d, p, q)
+    (a.open == b.open) & same(&c, &d) & same(&p, &q)
 }
 
 pub fn same_value(a: Bench, b: Bench) -> bool {
     let p = a.qualities;
     let q = b.qualities;
-    (a.replacements == b.replacements)
-        & (same_numbers(&p, &q) & (same_mesh(a, b) & same_cavity(a, b)))
+    (a.replacements == b.replacements) & same_qualities(p, q) & same_mesh(a, b) & same_cavity(a, b)
 }

@@ -2,4 +2,3 @@
 pub mod compare;
 pub mod lists;
 pub mod value;
-pub mod word;

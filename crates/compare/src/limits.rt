@@ -1,14 +1,15 @@
 // The cavities of document 01 that its table of proved ones leaves out: the greatest count of points, the greatest coordinate, the smallest buffer.
+use crate::trial::searched;
+use crate::trial::trial;
 use checker::check::check_job;
 use enumerator::fours::listed;
 use enumerator::fours::place_of;
-use enumerator::read::put_number;
-use enumerator::read::upto;
+use lines::list::front_integers;
+use lines::list::put_integer;
+use lines::tally::Counts;
 use random_jobs::boundary::put_boundary;
 use random_jobs::damage::NOTHING;
-use trials::tally::Tally;
-use trials::trial::is_answer;
-use trials::trial::trial;
+use trials::tally::with_comparison;
 
 // Two points above and below a ring of fourteen, then one more within.
 const RING: [i32; 51] = [
@@ -137,42 +138,40 @@ fn limit(
     table: &[i32],
     chosen: &[u8],
     number: u32,
-    tally: Tally,
-) -> Tally {
+    tally: Counts,
+) -> Counts {
     let is_same = check_job(points, triangles, kept, table) == number;
-    let t = tally.with_comparison(is_same, 0, b"limit: job ");
+    let t = with_comparison(tally, is_same, 0, b"limit: job ");
     trial(0, points, triangles, kept, table, chosen, t)
 }
 
 // 1 for the fours of the list; the others stay as they are.
 fn put_open(n: usize, list: &[u8], out: &mut [i32]) {
     for i in 0..list.len() / 4 {
-        put_number(out, place_of(n, listed(list, i)), 1);
+        put_integer(out, place_of(n, listed(list, i)), 1);
     }
 }
 
 // 16 of the points are accepted, 17 are not. Only the given tetrahedra are open.
-fn with_both(points: &[i32], triangles: &[u8], around: &[u8], tally: Tally) -> Tally {
+fn with_both(points: &[i32], triangles: &[u8], around: &[u8], tally: Counts) -> Counts {
     let mut table = [0i32; 1820];
     put_open(16, around, &mut table);
-    let sixteen = &points[0..upto(48, points.len())];
+    let sixteen = front_integers(points, 48);
     let t = limit(sixteen, triangles, b"\x00\x01", &table, around, 0, tally);
     limit(points, triangles, b"", &table, around, 2, t)
 }
 
-fn with_ring(tally: Tally) -> Tally {
+fn with_ring(tally: Counts) -> Counts {
     let points = RING;
     let around = AROUND;
-    let mut triangles = [0u8; 96];
-    let n = upto(
-        put_boundary(0, NOTHING, &points[0..48], &around, &mut triangles),
-        96,
-    );
-    with_both(&points, &triangles[0..n], &around, tally)
+    let mut room = [0u8; 96];
+    let sixteen = front_integers(&points, 48);
+    let triangles = put_boundary(0, NOTHING, sixteen, &around, &mut room);
+    with_both(&points, triangles, &around, tally)
 }
 
 // The corner of a cube, with the given size of it along x and z.
-fn with_corner(x: i32, z: i32, number: u32, tally: Tally) -> Tally {
+fn with_corner(x: i32, z: i32, number: u32, tally: Counts) -> Counts {
     let points = [0, 0, 0, x, 0, 0, 0, 10_000, 0, 0, 0, z];
     let triangles = A;
     let chosen = CORNER;
@@ -181,11 +180,12 @@ fn with_corner(x: i32, z: i32, number: u32, tally: Tally) -> Tally {
 }
 
 // The search of the corner of a cube into a buffer.
-fn with_buffer(answer: &mut [u8], number: u32, worst: u32, list: &[u8], tally: Tally) -> Tally {
+fn with_buffer(answer: &mut [u8], number: u32, worst: u32, list: &[u8], tally: Counts) -> Counts {
     let points = [0, 0, 0, 1, 0, 0, 0, 1, 0, 0, 0, 1];
     let triangles = A;
     let table = [592_592i32];
-    let is_same = is_answer(
+    searched(
+        0,
         &points,
         &triangles,
         b"",
@@ -194,12 +194,12 @@ fn with_buffer(answer: &mut [u8], number: u32, worst: u32, list: &[u8], tally: T
         worst,
         list,
         answer,
-    );
-    tally.with_answer(number, is_same, 0)
+        tally,
+    )
 }
 
 // A buffer of 7,280 bytes is enough, one of 7,279 is not and stays as it is.
-fn with_buffers(tally: Tally) -> Tally {
+fn with_buffers(tally: Counts) -> Counts {
     let mut enough = [0u8; 7280];
     let mut short = [0u8; 7279];
     let list = CORNER;
@@ -207,7 +207,7 @@ fn with_buffers(tally: Tally) -> Tally {
     with_buffer(&mut short, 14, 0, b"", t)
 }
 
-pub fn with_limits(tally: Tally) -> Tally {
+pub fn with_limits(tally: Counts) -> Counts {
     let t = with_ring(tally);
     let t2 = with_corner(10_000, 10_000, 0, t);
     let t3 = with_corner(10_001, 10_000, 3, t2);

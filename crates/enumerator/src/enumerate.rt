@@ -1,16 +1,15 @@
 // Every lawful filling of a job, straight from the laws: each subset of the fours that keep law 2 is tried, in no clever order and with nothing left out.
-use crate::fours::after;
-use crate::fours::first;
+use crate::fours::at_place;
 use crate::fours::how_many;
-use crate::fours::listed;
-use crate::fours::put_four;
-use crate::read::offset;
-use crate::read::start;
-use crate::read::up;
-use crate::read::upto;
+use crate::read::byte_at;
+use crate::read::put_all;
 use crate::rules::has_quality;
 use crate::rules::lowest_broken;
 use crate::rules::worst;
+use lines::list::front;
+use lines::list::put;
+use lines::list::upto;
+use std::num::wrapping_add_usize as plus;
 
 // The most fours of which every subset is tried.
 pub const MOST: usize = 15;
@@ -27,38 +26,30 @@ pub struct Best {
     pub subset: usize,
 }
 
-// Puts the fours that keep law 2 at the start of out, in order; how many there are, which may be more than out has room for.
-pub fn put_pool(points: &[i32], table: &[i32], out: &mut [u8]) -> usize {
+// Puts the fours that keep law 2 at the start of out, in order, as many as it has room for, and hands them back.
+pub fn put_pool<'a>(points: &[i32], table: &[i32], out: &'a mut [u8]) -> &'a [u8] {
     let n = points.len() / 3;
-    let mut m: usize = 0;
-    let mut f = first();
+    let mut len: usize = 0;
     for k in 0..how_many(n) {
-        put_four(out, start(m, 4), f);
+        let f = at_place(n, k);
+        put_all(out, len, &[f.a, f.b, f.c, f.d]);
         if has_quality(points, table, f) {
-            m = up(m);
+            len = plus(len, 4);
         }
-        f = after(f, n);
     }
-    m
+    front(out, len)
 }
 
-// How many subsets m fours have, where they are at most 15.
-pub fn subsets(m: usize) -> usize {
-    1 << upto(m, MOST)
-}
-
-// Puts the s-th subset of the pool at the start of out, in order; how many bytes that is.
-pub fn put_subset(pool: &[u8], s: usize, out: &mut [u8]) -> usize {
+// Puts the s-th subset of the pool at the start of out, in order, and hands it back.
+pub fn put_subset<'a>(pool: &[u8], s: usize, out: &'a mut [u8]) -> &'a [u8] {
     let mut n: usize = 0;
-    let mut rest = s;
-    for k in 0..pool.len() / 4 {
-        put_four(out, n, listed(pool, k));
-        if rest % 2 == 1 {
-            n = offset(n, 4);
+    for i in 0..pool.len() {
+        put(out, n, byte_at(pool, i, 0));
+        if (s >> upto(i / 4, MOST)) % 2 == 1 {
+            n = plus(n, 1);
         }
-        rest = rest / 2;
     }
-    n
+    front(out, n)
 }
 
 // Whether the list of the subset s of a pool comes before that of t: the smaller four at the first place where the lists differ, or the start of the longer one. Where
@@ -76,55 +67,23 @@ fn comes_first(s: usize, t: usize) -> bool {
     false
 }
 
-// The best so far, with the s-th subset, which is lawful and of worst quality q.
-fn with_lawful(s: usize, q: u32, best: Best) -> Best {
-    let lawful = up(best.lawful);
-    if (best.lawful == 0) | (q > best.worst) {
-        return Best {
-            lawful,
-            ties: 1,
-            worst: q,
-            subset: s,
-        };
+// The best so far, with the s-th subset, which is lawful and of worst quality q, above 0.
+fn with_lawful(s: usize, q: u32, mut best: Best) -> Best {
+    let lawful = plus(best.lawful, 1);
+    best.lawful = lawful;
+    if best.worst < q {
+        best.worst = q;
+        best.ties = 0;
+        best.subset = s;
     }
-    if q < best.worst {
-        return Best {
-            lawful,
-            ties: best.ties,
-            worst: best.worst,
-            subset: best.subset,
-        };
+    if q == best.worst {
+        let ties = plus(best.ties, 1);
+        best.ties = ties;
+        if comes_first(s, best.subset) {
+            best.subset = s;
+        }
     }
-    let subset = if comes_first(s, best.subset) {
-        s
-    } else {
-        best.subset
-    };
-    Best {
-        lawful,
-        ties: up(best.ties),
-        worst: q,
-        subset,
-    }
-}
-
-// The best so far, after one more subset.
-fn tried(
-    points: &[i32],
-    triangles: &[u8],
-    kept: &[u8],
-    table: &[i32],
-    pool: &[u8],
-    s: usize,
-    best: Best,
-) -> Best {
-    let mut room = [0u8; ROOM];
-    let n = upto(put_subset(pool, s, &mut room), ROOM);
-    let list = &room[0..n];
-    if lowest_broken(points, triangles, kept, table, list) != 0 {
-        return best;
-    }
-    with_lawful(s, worst(points, table, list), best)
+    best
 }
 
 // The best lawful filling, of all the subsets of the pool.
@@ -141,8 +100,12 @@ pub fn best_filling(
         worst: 0,
         subset: 0,
     };
-    for s in 0..subsets(pool.len() / 4) {
-        best = tried(points, triangles, kept, table, pool, s, best);
+    for s in 0..1 << upto(pool.len() / 4, MOST) {
+        let mut room = [0u8; ROOM];
+        let list = put_subset(pool, s, &mut room);
+        if lowest_broken(points, triangles, kept, table, list) == 0 {
+            best = with_lawful(s, worst(points, table, list), best);
+        }
     }
     best
 }

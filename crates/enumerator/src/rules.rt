@@ -5,61 +5,39 @@ use crate::faces::put_faces;
 use crate::faces::reversed;
 use crate::faces::stands;
 use crate::faces::triangle_at;
-use crate::fours::has_corner;
+use crate::fours::is_covered;
 use crate::fours::listed;
 use crate::fours::place_of;
+use crate::read::LONGEST;
 use crate::read::byte_at;
 use crate::read::number_at;
-use crate::read::offset;
 use crate::read::start;
-use crate::read::up;
-use crate::read::upto;
 use geometry::tetrahedron::Four;
 use geometry_c::checked::YES;
 use geometry_c::checked::apart;
 use geometry_c::checked::inside;
 use geometry_c::checked::solid;
-use geometry_c::checked::turned;
+use lines::list::upto;
+use std::num::wrapping_add_usize as plus;
 
 // The bytes of the outward faces of 64 tetrahedra.
-const FACES: usize = 768;
+pub const FACES: usize = 768;
 
-// Whether f comes before g, number by number.
-fn precedes(f: Four, g: Four) -> bool {
-    (f.a < g.a)
-        | ((f.a == g.a)
-            & ((f.b < g.b) | ((f.b == g.b) & ((f.c < g.c) | ((f.c == g.c) & (f.d < g.d))))))
-}
-
-// Law 1: a strictly increasing four of present points, before the next one.
-fn is_in_order(list: &[u8], i: usize, n: usize) -> bool {
-    let f = listed(list, i);
-    let is_last = up(i) >= list.len() / 4;
-    (f.a < f.b)
-        & (f.b < f.c)
-        & (f.c < f.d)
-        & (f.d < n)
-        & (is_last | precedes(f, listed(list, up(i))))
-}
-
-// The entry of f.
-pub fn entry(points: &[i32], table: &[i32], f: Four) -> i32 {
-    number_at(table, place_of(points.len() / 3, f))
+// The entry of f; an unmeasured one as 0.
+fn entry(points: &[i32], table: &[i32], f: Four) -> u32 {
+    let v = number_at(table, place_of(points.len() / 3, f), 0);
+    if v < 0 { 0 } else { v as u32 }
 }
 
 // Law 2: solid, with a quality above 0.
 pub fn has_quality(points: &[i32], table: &[i32], f: Four) -> bool {
-    if solid(points, f) != YES {
-        return false;
-    }
-    entry(points, table, f) > 0
+    (solid(points, f) == YES) & (entry(points, table, f) > 0)
 }
 
 // Law 3: no point strictly inside.
-pub fn holds_a_point(points: &[i32], f: Four) -> bool {
-    let t = turned(points, f);
+fn holds_a_point(points: &[i32], f: Four) -> bool {
     for p in 0..points.len() / 3 {
-        if inside(points, t, p) == YES {
+        if inside(points, f, p) == YES {
             return true;
         }
     }
@@ -76,22 +54,14 @@ fn is_bounded(triangles: &[u8], faces: &[u8]) -> bool {
     true
 }
 
-// Law 4, first and third sentence, for face i: it belongs to one tetrahedron only; if it is no boundary triangle, its reverse is among the faces, and is
-// no boundary triangle either.
-fn is_matched(triangles: &[u8], faces: &[u8], i: usize) -> bool {
-    let t = triangle_at(faces, i);
-    let r = reversed(t);
-    !stands(faces, up(i), t)
-        & (stands(triangles, 0, t) | (stands(faces, 0, r) & !stands(triangles, 0, r)))
-}
-
+// Law 4, first and third sentence: each face belongs to one tetrahedron only; if it is no boundary triangle, its reverse is among the faces, and is no boundary
+// triangle either.
 fn are_matched(triangles: &[u8], faces: &[u8]) -> bool {
-    // First: most lists fail here.
-    if !is_bounded(triangles, faces) {
-        return false;
-    }
     for i in 0..faces.len() / 3 {
-        if !is_matched(triangles, faces, i) {
+        let t = triangle_at(faces, i);
+        let r = reversed(t);
+        let is_inner = stands(faces, 0, r) & !stands(triangles, 0, r);
+        if stands(faces, i + 1, t) | !(stands(triangles, 0, t) | is_inner) {
             return false;
         }
     }
@@ -100,8 +70,12 @@ fn are_matched(triangles: &[u8], faces: &[u8]) -> bool {
 
 fn keeps_4(points: &[i32], triangles: &[u8], list: &[u8]) -> bool {
     let mut room = [0u8; FACES];
-    let n = upto(put_faces(points, list, &mut room), FACES);
-    are_matched(triangles, &room[0..n])
+    let faces = put_faces(points, list, &mut room);
+    // First: most lists fail here.
+    if !is_bounded(triangles, faces) {
+        return false;
+    }
+    are_matched(triangles, faces)
 }
 
 // Law 5: every two tetrahedra are apart.
@@ -114,40 +88,48 @@ pub fn is_apart_from(points: &[i32], list: &[u8], f: Four, from: usize) -> bool 
     true
 }
 
-// Law 7: some tetrahedron has the corners p and q. Law 6, where they are one point.
-fn is_edge(list: &[u8], p: usize, q: usize) -> bool {
-    for i in 0..list.len() / 4 {
-        let f = listed(list, i);
-        if has_corner(f, p) & has_corner(f, q) {
-            return true;
-        }
-    }
-    false
-}
-
-// How many things the law is about: fours, points, kept edges.
-fn things(law: u32, points: &[i32], kept: &[u8], list: &[u8]) -> usize {
+// Whether the i-th of what the law is about breaks it: fours (1, 2, 3, 5), the list (4), points (6), kept edges (7).
+// Law 1: a four of present points, before the next one. Behind the last one noughts are read, whose place is behind all fours.
+// Laws 6 and 7: a tetrahedron has the point, or both points, for corners.
+fn breaks(
+    law: u32,
+    points: &[i32],
+    triangles: &[u8],
+    kept: &[u8],
+    table: &[i32],
+    list: &[u8],
+    i: usize,
+) -> bool {
+    let n = points.len() / 3;
     match law {
-        6 => points.len() / 3,
-        7 => kept.len() / 2,
-        _ => list.len() / 4,
-    }
-}
-
-// Whether the i-th of them breaks the law, which is not law 4.
-fn breaks(law: u32, points: &[i32], kept: &[u8], table: &[i32], list: &[u8], i: usize) -> bool {
-    let f = listed(list, i);
-    match law {
-        1 => !is_in_order(list, i, points.len() / 3),
-        2 => !has_quality(points, table, f),
-        3 => holds_a_point(points, f),
-        5 => !is_apart_from(points, list, f, up(i)),
-        6 => !is_edge(list, i, i),
-        _ => !is_edge(
+        1 => place_of(n, listed(list, i)) >= place_of(n, listed(list, plus(i, 1))),
+        2 => !has_quality(points, table, listed(list, i)),
+        3 => holds_a_point(points, listed(list, i)),
+        4 => !keeps_4(points, triangles, list),
+        5 => !is_apart_from(points, list, listed(list, i), plus(i, 1)),
+        6 => !is_covered(
             list,
-            byte_at(kept, start(i, 2)),
-            byte_at(kept, offset(start(i, 2), 1)),
+            Four {
+                a: i,
+                b: i,
+                c: i,
+                d: i,
+            },
         ),
+        _ => {
+            let at = start(i, 2);
+            let p = byte_at(kept, at, 0);
+            let q = byte_at(kept, at, 1);
+            !is_covered(
+                list,
+                Four {
+                    a: p,
+                    b: q,
+                    c: p,
+                    d: q,
+                },
+            )
+        }
     }
 }
 
@@ -159,11 +141,14 @@ fn is_broken(
     table: &[i32],
     list: &[u8],
 ) -> bool {
-    if law == 4 {
-        return !keeps_4(points, triangles, list);
-    }
-    for i in 0..things(law, points, kept, list) {
-        if breaks(law, points, kept, table, list, i) {
+    let many = match law {
+        4 => 1,
+        6 => points.len() / 3,
+        7 => kept.len() / 2,
+        _ => list.len() / 4,
+    };
+    for i in 0..upto(many, LONGEST) {
+        if breaks(law, points, triangles, kept, table, list, i) {
             return true;
         }
     }
@@ -189,16 +174,11 @@ pub fn lowest_broken(
     0
 }
 
-// An entry as a quality, 0 for none.
-fn quality(v: i32) -> u32 {
-    if v < 0 { 0 } else { v as u32 }
-}
-
 // The least entry of the list's fours; 1,000,001 for the empty list.
 pub fn worst(points: &[i32], table: &[i32], list: &[u8]) -> u32 {
     let mut least: u32 = 1_000_001;
     for i in 0..list.len() / 4 {
-        let q = quality(entry(points, table, listed(list, i)));
+        let q = entry(points, table, listed(list, i));
         if q < least {
             least = q;
         }

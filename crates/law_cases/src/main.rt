@@ -5,13 +5,13 @@
 //                                               R,k job refused
 // Any other line, and one with a list too long for the program, is counted as unread and as different. Assumes nothing; any bytes may come.
 mod answer;
-mod expected;
 mod tally;
 
 ghost use mathlib.Core.Path.{_≡_};
 ghost use lib.ListN.{length};
 use libc::STDIN_FILENO;
 use lines::tally::print;
+use tally::print_tally;
 use tally::tally_of;
 
 // The most bytes of input, and one more.
@@ -31,6 +31,5 @@ fn main() {
         print(b"too many lines\n");
         return;
     }
-    let t = tally_of(&input[..n]);
-    t.print();
+    print_tally(tally_of(&input[..n]));
 }

@@ -1,25 +1,17 @@
 // How many jobs were checked and lists judged, with what answer, and how many agree.
 use crate::answer::Answer;
 use crate::answer::answer_of;
-use crate::expected::agrees;
-use crate::expected::letter;
-use crate::expected::number_of;
-use crate::expected::result_of;
-use judge::judge::Verdict;
-use lines::tally::next;
+use lines::number::number;
+use lines::tally::Counts;
 use lines::tally::print;
 use lines::tally::print_count;
-use lines::tally::print_counts;
 use lines::text::after;
 use lines::text::before;
+use lines::text::part;
 use lines::text::past;
 
-// Counts in the order in which they are printed. Jobs by the checker's number: PASS for 0, and 2 to 13 behind it; lists of jobs that pass from LAWS on, by the lowest
-// law broken, 0 for lawful ones; the other lists are refused.
-pub struct Tally {
-    counts: [u64; 28],
-}
-
+// Where is counted, in the order in which the counts are printed. Jobs by the checker's number: PASS for 0, and 2 to 13 behind it; lists of jobs that pass from LAWS
+// on, by the lowest law broken, 0 for lawful ones; the other lists are refused.
 const LINES: usize = 0;
 
 const UNREAD: usize = 1;
@@ -32,146 +24,126 @@ const LISTS: usize = 16;
 
 const REFUSED: usize = 17;
 
+const LAWS: usize = 18;
+
 const AGREE: usize = 26;
 
 const DIFFER: usize = 27;
 
+const NOWHERE: usize = 64;
+
 // The most lines that are named as different.
 const NAMED: u64 = 5;
 
-fn is_job(line: &[u8]) -> bool {
-    letter(before(line, b';')) == b'J'
+// What a line comes to: where it is counted, besides the lines, and whether the answer is what it says.
+struct Outcome {
+    first: usize,
+    second: usize,
+    agrees: bool,
 }
 
-fn is_list(line: &[u8]) -> bool {
-    letter(before(line, b';')) == b'L'
+// The letter that the text is, 0 where it is none.
+fn letter(t: &[u8]) -> u8 {
+    if t.len() == 1 { t[0] } else { 0 }
 }
 
-// Where jobs of this number are counted; past the end where there are none.
-fn number_place(number: u32) -> usize {
-    match number {
-        0 => PASS,
-        2..=13 => 2 + number as usize,
-        _ => 28,
-    }
-}
-
-// Where lists that break this law are counted.
-fn law_place(law: u32) -> usize {
-    if law < 8 { 18 + law as usize } else { 28 }
-}
-
-impl Tally {
-    fn new() -> Self {
-        Tally { counts: [0; 28] }
-    }
-
-    // One more of what is counted there.
-    fn more(mut self, at: usize) -> Self {
-        if at < 28 {
-            self.counts[at] = next(self.counts[at]);
-        }
-        self
-    }
-
-    fn count(self, at: usize) -> u64 {
-        if at < 28 { self.counts[at] } else { 0 }
-    }
-
-    fn with_number(self, number: u32) -> Self {
-        let t = self.more(JOBS);
-        t.more(number_place(number))
-    }
-
-    fn with_verdict(self, v: Verdict) -> Self {
-        let t = self.more(LISTS);
-        if v.number != 0 {
-            return t.more(REFUSED);
-        }
-        t.more(law_place(v.law))
-    }
-
-    fn with_comparison(self, is_agreeing: bool) -> Self {
-        self.more(if is_agreeing { AGREE } else { DIFFER })
-    }
-
-    fn with_unread(self) -> Self {
-        let t = self.more(UNREAD);
-        t.more(DIFFER)
-    }
-
-    // POINTS;TRIANGLES;KEPT;TABLE;NUMBER
-    fn with_job(self, job: &[u8]) -> Self {
-        let Answer::Of { number, verdict } = answer_of(job, b"") else {
-            return self.with_unread();
-        };
-        let e = number_of(after(after(after(after(job, b';'), b';'), b';'), b';'));
-        let t = self.with_number(number);
-        t.with_comparison(agrees(e, number, verdict))
-    }
-
-    // LIST;RESULT
-    fn with_list(self, job: &[u8], case: &[u8]) -> Self {
-        let Answer::Of { number, verdict } = answer_of(job, before(case, b';')) else {
-            return self.with_unread();
-        };
-        let e = result_of(after(case, b';'));
-        let t = self.with_verdict(verdict);
-        t.with_comparison(agrees(e, number, verdict))
-    }
-
-    // The job is that of the last line that has one.
-    fn with_case(self, job: &[u8], line: &[u8]) -> Self {
-        if is_job(line) {
-            return self.with_job(job);
-        }
-        if is_list(line) {
-            return self.with_list(job, after(line, b';'));
-        }
-        self.with_unread()
-    }
-
-    fn with_line(self, job: &[u8], line: &[u8]) -> Self {
-        let t = self.more(LINES);
-        let all = t.with_case(job, line);
-        if all.count(DIFFER) > t.count(DIFFER) {
-            all.print_difference();
-        }
-        all
-    }
-
-    fn print_difference(self) {
-        if self.count(DIFFER) <= NAMED {
-            print(b"differs: line ");
-            print_count(self.count(LINES), b"\n");
-        }
-    }
-
-    pub fn print(self) {
-        let counts = self.counts;
-        print_counts(
-            &counts,
-            b" lines, ; unread\n; jobs: ; pass, ; refused 2, ; refused 3, ; refused 4, ; refused 5, ; refused 6, ; refused 7, ; refused 8, ; refused 9, ; refused 10, ; \
-            refused 11, ; refused 12, ; refused 13\n; lists: ; of a refused job, ; lawful, ; break law 1, ; break law 2, ; break law 3, ; break law 4, ; break law 5, ; \
-            break law 6, ; break law 7\n; agree, ; differ\n;",
-        );
+// A job: POINTS;TRIANGLES;KEPT;TABLE;NUMBER
+fn checked(a: Answer, expected: &[u8]) -> Outcome {
+    let second = if a.checked == 0 {
+        PASS
+    } else {
+        a.checked as usize + 2
+    };
+    Outcome {
+        first: JOBS,
+        second,
+        agrees: number(expected, 10) == a.checked as u64,
     }
 }
 
-pub fn tally_of(text: &[u8]) -> Tally {
-    let mut t = Tally::new();
+// Whether the verdict is W,q or L,k or R,k.
+fn is_verdict(a: Answer, expected: &[u8]) -> bool {
+    let k = number(after(expected, b','), 10);
+    match letter(before(expected, b',')) {
+        b'W' => (a.number == 0) & (a.law == 0) & (a.worst as u64 == k),
+        b'L' => (a.number == 0) & (a.law as u64 == k) & (a.worst == 0),
+        b'R' => (a.number as u64 == k) & (a.law == 0) & (a.worst == 0),
+        _ => false,
+    }
+}
+
+fn judged(a: Answer, expected: &[u8]) -> Outcome {
+    let second = if a.number == 0 {
+        LAWS + a.law as usize
+    } else {
+        REFUSED
+    };
+    Outcome {
+        first: LISTS,
+        second,
+        agrees: is_verdict(a, expected),
+    }
+}
+
+// A line with this letter. The job is that of the last line that has one, from POINTS on.
+fn played(kind: u8, job: &[u8], case: &[u8]) -> Outcome {
+    if kind == b'J' {
+        let a = answer_of(job, b"");
+        if a.is_read {
+            return checked(a, after(after(after(after(job, b';'), b';'), b';'), b';'));
+        }
+    }
+    if kind == b'L' {
+        let a = answer_of(job, before(case, b';'));
+        if a.is_read {
+            return judged(a, after(case, b';'));
+        }
+    }
+    Outcome {
+        first: UNREAD,
+        second: NOWHERE,
+        agrees: false,
+    }
+}
+
+fn with_line(tally: Counts, o: Outcome) -> Counts {
+    let a = tally.more(LINES);
+    let b = a.more(o.first);
+    let c = b.more(o.second);
+    if o.agrees {
+        return c.more(AGREE);
+    }
+    let all = c.more(DIFFER);
+    if all.count(DIFFER) <= NAMED {
+        print(b"differs: line ");
+        print_count(all.count(LINES), b"\n");
+    }
+    all
+}
+
+pub fn print_tally(tally: Counts) {
+    tally.print(
+        0,
+        b" lines, ; unread\n; jobs: ; pass, ; refused 2, ; refused 3, ; refused 4, ; refused 5, ; refused 6, ; refused 7, ; refused 8, ; refused 9, ; refused 10, ; \
+        refused 11, ; refused 12, ; refused 13\n; lists: ; of a refused job, ; lawful, ; break law 1, ; break law 2, ; break law 3, ; break law 4, ; break law 5, ; \
+        break law 6, ; break law 7\n; agree, ; differ\n;",
+    );
+}
+
+pub fn tally_of(text: &[u8]) -> Counts {
+    let mut t = Counts::new();
     // A text that starts with a list has no job for it: L is no list of numbers, and the line is unread.
     let mut job = text;
-    let mut rest = text;
-    while rest.len() > 0 {
-        let line = before(rest, b'\n');
-        if is_job(line) {
+    let mut at: usize = 0;
+    while at < text.len() {
+        let line = part(text, at, b'\n');
+        let kind = letter(before(line, b';'));
+        if kind == b'J' {
             // Past J and NAME.
             job = after(after(line, b';'), b';');
         }
-        t = t.with_line(job, line);
-        let from = past(rest, b'\n');
-        rest = &rest[from..];
+        t = with_line(t, played(kind, job, after(line, b';')));
+        at = past(text, at, b'\n');
     }
     t
 }

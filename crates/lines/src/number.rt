@@ -1,92 +1,78 @@
-// Numbers out of a whole text: nothing where a byte is no digit, where there is no digit, or where the number is too large.
+// Numbers out of a whole text.
 ghost use Prim.Native.Nat.{_≤_};
+use crate::text::after;
+use crate::text::until;
+use std::num::wrapping_sub_u8;
 
-pub enum Number {
-    Is(u64),
-    Nothing,
-}
+// Where a byte is no digit, where there is no digit, or where the number is too large.
+pub const NONE: u64 = u64::MAX;
 
-pub enum Signed {
-    Is(i32),
-    Nothing,
+pub struct Signed {
+    pub value: i32,
+    pub is_read: bool,
 }
 
 // The value of a digit, 16 for any other byte.
 fn digit(b: u8) -> u64
     ensures { λ r. ⌜ r ≤ 16 ⌝ }
 {
-    match b {
-        b'0'..=b'9' => (b - b'0') as u64,
-        b'a'..=b'f' => (b - b'a') as u64 + 10,
-        _ => 16,
+    let d = wrapping_sub_u8(b, b'0');
+    if d < 10 {
+        return d as u64;
     }
+    let e = wrapping_sub_u8(b, b'a');
+    if e < 6 { e as u64 + 10 } else { 16 }
 }
 
-pub fn decimal(s: &[u8]) -> Number {
+// The number that s is to the base 10 or 16.
+pub fn number(s: &[u8], base: u64) -> u64 {
     if s.len() == 0 {
-        return Number::Nothing;
+        return NONE;
     }
     let mut value: u64 = 0;
     for i in 0..s.len() {
         let d = digit(s[i]);
-        if d >= 10 {
-            return Number::Nothing;
-        }
-        if value > 1_000_000_000_000_000_000 {
-            return Number::Nothing;
-        }
-        value = value * 10 + d;
-    }
-    Number::Is(value)
-}
-
-pub fn hexadecimal(s: &[u8]) -> Number {
-    if s.len() == 0 {
-        return Number::Nothing;
-    }
-    let mut value: u64 = 0;
-    for i in 0..s.len() {
-        let d = digit(s[i]);
-        if d >= 16 {
-            return Number::Nothing;
+        if d >= base {
+            return NONE;
         }
         if value >= 0x1000_0000_0000_0000 {
-            return Number::Nothing;
+            return NONE;
         }
-        value = value * 16 + d;
+        value = if base == 10 {
+            value * 10 + d
+        } else {
+            value << 4 | d
+        };
     }
-    Number::Is(value)
-}
-
-fn positive(n: Number) -> Signed {
-    let Number::Is(value) = n else {
-        return Signed::Nothing;
-    };
-    if value > 2_147_483_647 {
-        return Signed::Nothing;
-    }
-    Signed::Is(value as i32)
+    value
 }
 
 // -n as !(n - 1), which fits at 2,147,483,648 too.
-fn negative(n: Number) -> Signed {
-    let Number::Is(value) = n else {
-        return Signed::Nothing;
-    };
-    if value == 0 {
-        return Signed::Is(0);
-    }
-    if value > 2_147_483_648 {
-        return Signed::Nothing;
-    }
-    Signed::Is(!((value - 1) as i32))
-}
-
 pub fn integer(s: &[u8]) -> Signed {
-    if s.len() > 0 {
-        if s[0] == b'-' {
-            return negative(decimal(&s[1..]));
+    if until(s, 0, b'-') == 0 {
+        let n = number(after(s, b'-'), 10);
+        if n == 0 {
+            return Signed {
+                value: 0,
+                is_read: true,
+            };
+        }
+        if n <= 2_147_483_648 {
+            return Signed {
+                value: !((n - 1) as i32),
+                is_read: true,
+            };
         }
     }
-    positive(decimal(s))
+    let n = number(s, 10);
+    if n <= 2_147_483_647 {
+        return Signed {
+            value: n as i32,
+            is_read: true,
+        };
+    }
+    Signed {
+        value: 0,
+        is_read: false,
+    }
 }

@@ -2,11 +2,11 @@
 ghost use Prim.Native.Nat.{_<_, _≤_};
 ghost use lib.ListN.{length};
 
-// Where the first byte b stands; the length where there is none.
-pub fn until(s: &[u8], b: u8) -> usize
-    ensures { λ r. ⌜ r ≤ length (now (s .entry)) ⌝ }
+// Where the first byte b stands, from a place on; the length where there is none.
+pub fn until(s: &[u8], from: usize, b: u8) -> usize
+    ensures { λ r. ⌜ (r ≤ length (now (s .entry))) × (from < length (now (s .entry)) → from ≤ r) ⌝ }
 {
-    for i in 0..s.len() {
+    for i in from..s.len() {
         if s[i] == b {
             return i;
         }
@@ -14,20 +14,26 @@ pub fn until(s: &[u8], b: u8) -> usize
     s.len()
 }
 
-// Where what follows the first b begins; the length where there is none. Past a byte at least, so that what is left of a text gets shorter.
-pub fn past(s: &[u8], b: u8) -> usize
-    ensures { λ r. ⌜ (r ≤ length (now (s .entry))) × (0 < length (now (s .entry)) → 0 < r) ⌝ }
+// Where what follows that byte begins; the length where there is none. Behind the place, where that is in the text.
+pub fn past(s: &[u8], from: usize, b: u8) -> usize
+    ensures { λ r. ⌜ (r ≤ length (now (s .entry))) × (from < length (now (s .entry)) → from < r) ⌝ }
 {
-    let n = until(s, b);
+    let n = until(s, from, b);
     if n < s.len() { n + 1 } else { n }
 }
 
+// What stands from a place up to that byte.
+pub fn part(s: &[u8], from: usize, b: u8) -> &[u8] {
+    let n = until(s, from, b);
+    if from < n { &s[from..n] } else { &s[n..n] }
+}
+
 pub fn before(s: &[u8], b: u8) -> &[u8] {
-    let n = until(s, b);
+    let n = until(s, 0, b);
     &s[0..n]
 }
 
 pub fn after(s: &[u8], b: u8) -> &[u8] {
-    let n = past(s, b);
+    let n = past(s, 0, b);
     &s[n..]
 }

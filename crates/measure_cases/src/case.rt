@@ -1,72 +1,61 @@
 // What a case says that measuring answers.
 use check::same;
-use lines::number::Number;
-use lines::number::decimal;
-use lines::number::hexadecimal;
+use lines::number::number;
 use lines::text::after;
 use lines::text::before;
 
-pub enum Expected {
-    Refused(u64),
-    Flat(u64),
-    Shape {
-        d: u64,
-        s: u64,
-        bits: u64,
-        millionths: u64,
-    },
-    Nothing,
+pub const NOTHING: u32 = 0;
+
+pub const REFUSED: u32 = 1;
+
+pub const FLAT: u32 = 2;
+
+pub const SHAPE: u32 = 3;
+
+// A number that does not stand there is NONE, which no measurement has.
+pub struct Expected {
+    pub kind: u32,
+    // Of a refusal, its number.
+    pub d: u64,
+    pub s: u64,
+    pub bits: u64,
+    pub millionths: u64,
 }
 
-fn refused(n: Number) -> Expected {
-    match n {
-        Number::Is(k) => Expected::Refused(k),
-        Number::Nothing => Expected::Nothing,
+fn kind_of(t: &[u8]) -> u32 {
+    if same(t, b"R") {
+        return REFUSED;
     }
-}
-
-fn flat(n: Number) -> Expected {
-    match n {
-        Number::Is(s) => Expected::Flat(s),
-        Number::Nothing => Expected::Nothing,
+    if same(t, b"FLAT") {
+        return FLAT;
     }
-}
-
-// D,S,q,BITS,MILLIONTHS. q is passed over: its bits say the same.
-fn shape(t: &[u8]) -> Expected {
-    let Number::Is(d) = decimal(before(t, b',')) else {
-        return Expected::Nothing;
-    };
-    let t = after(t, b',');
-    let Number::Is(s) = decimal(before(t, b',')) else {
-        return Expected::Nothing;
-    };
-    let t = after(after(t, b','), b',');
-    let Number::Is(bits) = hexadecimal(before(t, b',')) else {
-        return Expected::Nothing;
-    };
-    let Number::Is(millionths) = decimal(after(t, b',')) else {
-        return Expected::Nothing;
-    };
-    Expected::Shape {
-        d,
-        s,
-        bits,
-        millionths,
+    if same(t, b"SHAPE") {
+        return SHAPE;
     }
+    NOTHING
 }
 
+// R,NUMBER or FLAT,S or SHAPE,D,S,q,BITS,MILLIONTHS. q is passed over: its bits say the same.
 pub fn result_of(t: &[u8]) -> Expected {
-    let kind = before(t, b',');
-    let rest = after(t, b',');
-    if same(kind, b"R") {
-        return refused(decimal(rest));
+    let kind = kind_of(before(t, b','));
+    let first = after(t, b',');
+    let second = after(first, b',');
+    let fourth = after(after(second, b','), b',');
+    if kind == SHAPE {
+        return Expected {
+            kind,
+            d: number(before(first, b','), 10),
+            s: number(before(second, b','), 10),
+            bits: number(before(fourth, b','), 16),
+            millionths: number(after(fourth, b','), 10),
+        };
     }
-    if same(kind, b"FLAT") {
-        return flat(decimal(rest));
+    let n = number(first, 10);
+    Expected {
+        kind,
+        d: n,
+        s: n,
+        bits: 0,
+        millionths: 0,
     }
-    if same(kind, b"SHAPE") {
-        return shape(rest);
-    }
-    Expected::Nothing
 }

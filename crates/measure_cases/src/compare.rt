@@ -1,5 +1,8 @@
 // A measurement beside what a case says of it.
 use crate::case::Expected;
+use crate::case::FLAT;
+use crate::case::REFUSED;
+use crate::case::SHAPE;
 use shape::measure::Measured;
 use shape::measure::Measurement;
 use shape::measure::Sizes;
@@ -21,55 +24,21 @@ fn has_bits(x: f64, bits: u64) -> bool {
     false
 }
 
-fn is_refused(e: Expected, number: u32) -> bool {
-    let Expected::Refused(n) = e else {
-        return false;
-    };
-    n == number as u64
-}
-
-fn is_flat(e: Expected, sizes: Sizes) -> bool {
-    let Expected::Flat(s) = e else {
-        return false;
-    };
-    if !is_whole(sizes.d, 0) {
-        return false;
-    }
-    is_whole(sizes.s, s)
-}
-
 fn is_shape(e: Expected, sizes: Sizes, q: f64) -> bool {
-    let Expected::Shape {
-        d,
-        s,
-        bits,
-        millionths,
-    } = e
-    else {
-        return false;
-    };
-    if !is_whole(sizes.d, d) {
-        return false;
-    }
-    if !is_whole(sizes.s, s) {
-        return false;
-    }
-    if !has_bits(sizes.shape, bits) {
-        return false;
-    }
-    if !has_bits(q, bits) {
-        return false;
-    }
-    millionths_of(Measurement::Shape(q)) as u64 == millionths
+    is_whole(sizes.d, e.d)
+        & is_whole(sizes.s, e.s)
+        & has_bits(sizes.shape, e.bits)
+        & has_bits(q, e.bits)
+        & (millionths_of(Measurement::Shape(q)) as u64 == e.millionths)
 }
 
 pub fn agrees(m: Measured, e: Expected) -> bool {
     let sizes = m.sizes;
     let answer = m.answer;
     match answer {
-        Measurement::Refused(n) => is_refused(e, n),
-        Measurement::Flat => is_flat(e, sizes),
-        Measurement::Shape(q) => is_shape(e, sizes, q),
+        Measurement::Refused(n) => (e.kind == REFUSED) & (e.d == n as u64),
+        Measurement::Flat => (e.kind == FLAT) & is_whole(sizes.d, 0) & is_whole(sizes.s, e.s),
+        Measurement::Shape(q) => (e.kind == SHAPE) & is_shape(e, sizes, q),
     }
 }
 
@@ -79,40 +48,19 @@ fn another(n: u64) -> u64 {
 
 // Whether the comparison tells each number of e from another: with any one of them changed, m does not agree.
 pub fn tells(m: Measured, e: Expected) -> bool {
-    match e {
-        Expected::Refused(n) => !agrees(m, Expected::Refused(another(n))),
-        Expected::Flat(s) => !agrees(m, Expected::Flat(another(s))),
-        Expected::Shape {
-            d,
-            s,
-            bits,
-            millionths,
-        } => tells_shape(m, d, s, bits, millionths),
-        Expected::Nothing => false,
+    let mut d = e;
+    d.d = another(e.d);
+    let mut s = e;
+    s.s = another(e.s);
+    let mut bits = e;
+    bits.bits = another(e.bits);
+    let mut millionths = e;
+    millionths.millionths = another(e.millionths);
+    let kind = e.kind;
+    match kind {
+        REFUSED => !agrees(m, d),
+        FLAT => !agrees(m, s),
+        SHAPE => !(agrees(m, d) | agrees(m, s) | agrees(m, bits) | agrees(m, millionths)),
+        _ => false,
     }
-}
-
-fn tells_shape(m: Measured, d: u64, s: u64, bits: u64, millionths: u64) -> bool {
-    if agrees_shape(m, another(d), s, bits, millionths) {
-        return false;
-    }
-    if agrees_shape(m, d, another(s), bits, millionths) {
-        return false;
-    }
-    if agrees_shape(m, d, s, another(bits), millionths) {
-        return false;
-    }
-    !agrees_shape(m, d, s, bits, another(millionths))
-}
-
-fn agrees_shape(m: Measured, d: u64, s: u64, bits: u64, millionths: u64) -> bool {
-    agrees(
-        m,
-        Expected::Shape {
-            d,
-            s,
-            bits,
-            millionths,
-        },
-    )
 }

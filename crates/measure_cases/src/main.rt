@@ -6,6 +6,7 @@ mod tally;
 
 use libc::STDIN_FILENO;
 use libc::STDOUT_FILENO;
+use tally::print_tally;
 use tally::tally_of;
 
 fn main() {
@@ -16,6 +17,5 @@ fn main() {
         io::write_all(STDOUT_FILENO, b"too many cases\n");
         return;
     }
-    let t = tally_of(&input[..n]);
-    t.print();
+    print_tally(tally_of(&input[..n]));
 }

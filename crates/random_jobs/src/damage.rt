@@ -64,8 +64,8 @@ const KIND: u64 = 11;
 
 // In a job of five: any of them.
 pub fn damage(seed: u64) -> u64 {
-    if chance(seed, HURT, 5) {
-        return drawn(seed, KIND, KINDS);
+    if chance(seed, HURT, 0, 5) {
+        return drawn(seed, KIND, 0, KINDS);
     }
     NOTHING
 }

@@ -7,17 +7,15 @@ use crate::damage::UNMEASURED;
 use crate::random::chance;
 use crate::random::drawn;
 use crate::random::index;
-use crate::random::nth;
-use enumerator::fours::after;
-use enumerator::fours::first;
+use enumerator::fours::at_place;
 use enumerator::fours::how_many;
-use enumerator::fours::is_listed;
+use enumerator::fours::is_covered;
 use enumerator::read::number_at;
-use enumerator::read::put_number;
-use enumerator::read::up;
-use geometry::tetrahedron::Four;
 use geometry_c::checked::YES;
 use geometry_c::checked::solid;
+use lines::list::front_integers;
+use lines::list::put_integer;
+use std::num::wrapping_add_usize as plus;
 
 const PALETTE: u64 = 40;
 
@@ -30,11 +28,11 @@ const BARRED: u64 = 6000;
 const MEASURED: u64 = 7000;
 
 // One of few qualities.
-fn quality(palette: u64, v: u64) -> i32 {
-    if palette == 0 {
+fn quality(seed: u64, k: usize) -> i32 {
+    if chance(seed, PALETTE, 0, 3) {
         return 1;
     }
-    match v {
+    match drawn(seed, VALUE, k, 4) {
         0 => 1,
         1 => 400_000,
         2 => 400_001,
@@ -42,67 +40,58 @@ fn quality(palette: u64, v: u64) -> i32 {
     }
 }
 
-fn value(seed: u64, k: usize) -> i32 {
-    quality(drawn(seed, PALETTE, 3), drawn(seed, nth(VALUE, k), 4))
-}
-
 // Whether place k is barred. With many points most are, so that the subsets of the others can be tried one by one.
 fn is_barred(seed: u64, k: usize, n: usize, is_chosen: bool) -> bool {
     if is_chosen {
-        return chance(seed, nth(BARRED, k), 40);
+        return chance(seed, BARRED, k, 40);
     }
     match n {
-        4..=6 => chance(seed, nth(BARRED, k), 6),
-        7 => !chance(seed, nth(BARRED, k), 4),
-        _ => !chance(seed, nth(BARRED, k), 200),
+        4 | 5 | 6 => chance(seed, BARRED, k, 6),
+        7 => !chance(seed, BARRED, k, 4),
+        _ => !chance(seed, BARRED, k, 200),
     }
 }
 
-fn entry(seed: u64, k: usize, points: &[i32], f: Four, is_chosen: bool) -> i32 {
-    if solid(points, f) != YES {
-        if chance(seed, nth(MEASURED, k), 2) {
-            return -1;
-        }
+fn entry(seed: u64, k: usize, points: &[i32], chosen: &[u8]) -> i32 {
+    let n = points.len() / 3;
+    let f = at_place(n, k);
+    if (solid(points, f) != YES) & chance(seed, MEASURED, k, 2) {
+        return -1;
     }
-    if is_barred(seed, k, points.len() / 3, is_chosen) {
+    if is_barred(seed, k, n, is_covered(chosen, f)) {
         return 0;
     }
-    value(seed, k)
+    quality(seed, k)
 }
 
 fn put_entries(seed: u64, points: &[i32], chosen: &[u8], out: &mut [i32]) {
-    let n = points.len() / 3;
-    let mut f = first();
-    for k in 0..how_many(n) {
-        put_number(out, k, entry(seed, k, points, f, is_listed(chosen, f)));
-        f = after(f, n);
+    for k in 0..how_many(points.len() / 3) {
+        put_integer(out, k, entry(seed, k, points, chosen));
     }
 }
 
-// What the damage puts for the entry v.
-fn damaged(d: u64, v: i32) -> i32 {
-    match d {
+// Puts the table, with the damage, at the start of out, and hands it back.
+pub fn put_table<'a>(
+    seed: u64,
+    d: u64,
+    points: &[i32],
+    chosen: &[u8],
+    out: &'a mut [i32],
+) -> &'a [i32] {
+    put_entries(seed, points, chosen, out);
+    let n = how_many(points.len() / 3);
+    let k = index(seed, HURT, 0, n);
+    let v = match d {
         ENTRY_LOW => -2,
         ENTRY_HIGH => 1_000_001,
         UNMEASURED => -1,
-        _ => v,
-    }
-}
-
-// How many entries the damage leaves of so many.
-fn left_of(d: u64, many: usize) -> usize {
-    match d {
-        ENTRY_MISSING => many / 2,
-        ENTRY_TOO_MANY => up(many),
-        _ => many,
-    }
-}
-
-// Puts the table, with the damage, at the start of out; how many entries it has.
-pub fn put_table(seed: u64, d: u64, points: &[i32], chosen: &[u8], out: &mut [i32]) -> usize {
-    let many = how_many(points.len() / 3);
-    put_entries(seed, points, chosen, out);
-    let k = index(seed, HURT, many);
-    put_number(out, k, damaged(d, number_at(out, k)));
-    left_of(d, many)
+        _ => number_at(out, k, 0),
+    };
+    put_integer(out, k, v);
+    let many = match d {
+        ENTRY_MISSING => n / 2,
+        ENTRY_TOO_MANY => plus(n, 1),
+        _ => n,
+    };
+    front_integers(out, many)
 }

@@ -1,5 +1,5 @@
-// Trials of one job: what the kernel's checker, judge and search say of it against the numbers, the laws and a plain enumerator, counted by the kind of answer.
-// Assumes nothing. No function has a `requires`: any lists may come.
-mod lists;
+// What a job is tried with, beside the kernel: the lists that are judged, the buffer that is searched into, and what was compared.
+// Assumes nothing. No function has a `requires`.
+pub mod buffer;
+pub mod lists;
 pub mod tally;
-pub mod trial;

@@ -1,23 +1,17 @@
 // Lists for the judge: subsets of the fours that keep law 2, a lawful filling with a four put in or left out, and lists that are out of order.
-use crate::tally::Tally;
-use enumerator::enumerate::ROOM;
+use enumerator::enumerate::MOST;
 use enumerator::enumerate::put_subset;
-use enumerator::enumerate::subsets;
-use enumerator::fours::after;
-use enumerator::fours::first;
+use enumerator::fours::at_place;
 use enumerator::fours::how_many;
-use enumerator::fours::is_listed;
-use enumerator::fours::put_four;
+use enumerator::fours::is_covered;
 use enumerator::read::byte_at;
-use enumerator::read::offset;
-use enumerator::read::put;
-use enumerator::read::up;
-use enumerator::read::upto;
-use enumerator::rules::lowest_broken;
-use enumerator::rules::worst;
-use judge::judge::judge;
+use enumerator::read::put_all;
+use lines::list::front;
+use lines::list::put;
+use lines::list::upto;
 use random_jobs::random::index;
-use random_jobs::random::nth;
+use std::num::wrapping_add_usize as plus;
+use std::num::wrapping_sub_usize as minus;
 
 const TOGGLED: u64 = 9000;
 
@@ -32,165 +26,81 @@ const WAYS: usize = 12;
 // The most subsets that are judged.
 const SAMPLE: usize = 64;
 
-// Whether the judge says this of the list.
-pub(crate) fn is_verdict(
-    points: &[i32],
-    triangles: &[u8],
-    kept: &[u8],
-    table: &[i32],
-    list: &[u8],
-    number: u32,
-    law: u32,
-    worst: u32,
-) -> bool {
-    let v = judge(points, triangles, kept, table, list);
-    (v.number == number) & (v.law == law) & (v.worst == worst)
-}
-
-// Compares the judge on one list of an accepted job.
-fn judged(
-    seed: u64,
-    points: &[i32],
-    triangles: &[u8],
-    kept: &[u8],
-    table: &[i32],
-    list: &[u8],
-    tally: Tally,
-) -> Tally {
-    let law = lowest_broken(points, triangles, kept, table, list);
-    let q = if law == 0 {
-        worst(points, table, list)
-    } else {
-        0
-    };
-    let is_same = is_verdict(points, triangles, kept, table, list, 0, law, q);
-    let t = tally.with_law(law);
-    t.with_comparison(is_same, seed, b"judge: job ")
-}
-
-// Puts the fours of the list in order at the start of out, with the k-th four of n points put in where it is missing and left out where it is there; how
-// many bytes that is.
-fn put_toggled(n: usize, list: &[u8], k: usize, out: &mut [u8]) -> usize {
+// Puts the fours of the list in order at the start of out, with the k-th four of n points put in where it is missing and left out where it is there.
+fn put_toggled<'a>(n: usize, list: &[u8], k: usize, out: &'a mut [u8]) -> &'a [u8] {
     let mut len: usize = 0;
-    let mut f = first();
     for i in 0..how_many(n) {
-        put_four(out, len, f);
-        if is_listed(list, f) != (i == k) {
-            len = offset(len, 4);
+        let f = at_place(n, i);
+        put_all(out, len, &[f.a, f.b, f.c, f.d]);
+        if is_covered(list, f) != (i == k) {
+            len = plus(len, 4);
         }
-        f = after(f, n);
     }
-    len
+    front(out, len)
 }
 
-fn less(n: usize, k: usize) -> usize {
-    if n >= k { n - k } else { 0 }
-}
-
-// Byte i of the list damaged in the kind-th way, where the points are n.
+// Byte i of the list damaged in the kind-th way, where the points are n: an absent point, the last four twice, two numbers or the fours out of order.
 fn damaged_byte(list: &[u8], n: usize, kind: usize, i: usize) -> usize {
     let len = list.len();
-    if (kind == 0) & (up(i) == len) {
+    if (kind == 0) & (plus(i, 1) == len) {
         return n;
     }
     if (kind == 1) & (i >= len) {
-        return byte_at(list, less(i, 4));
+        return byte_at(list, minus(i, 4), 0);
     }
     if (kind == 2) & (i < 2) {
-        return byte_at(list, less(1, i));
+        return byte_at(list, i ^ 1, 0);
     }
     if kind == 3 {
         if len > 0 {
-            return byte_at(list, offset(i, 4) % len);
+            return byte_at(list, plus(i, 4) % len, 0);
         }
     }
-    byte_at(list, i)
+    byte_at(list, i, 0)
 }
 
-fn damaged_length(len: usize, kind: usize) -> usize {
-    match kind {
-        1 => offset(len, 4),
-        4 => up(len),
-        5 => less(len, 1),
-        _ => len,
-    }
-}
-
-// Puts the list damaged at the start of out: an absent point, the last four twice, two numbers or the fours out of order, a byte more or less.
-fn put_damaged(list: &[u8], n: usize, kind: usize, out: &mut [u8]) -> usize {
-    let m = damaged_length(list.len(), kind);
-    for i in 0..m {
+// Puts the list damaged so, or with a byte more or less.
+fn put_damaged<'a>(list: &[u8], n: usize, kind: usize, out: &'a mut [u8]) -> &'a [u8] {
+    let m = match kind {
+        1 => plus(list.len(), 4),
+        4 => plus(list.len(), 1),
+        5 => upto(minus(list.len(), 1), list.len()),
+        _ => list.len(),
+    };
+    for i in 0..upto(m, out.len()) {
         put(out, i, damaged_byte(list, n, kind, i));
     }
-    m
+    front(out, m)
 }
 
-// Which of the fours of n points is toggled; the first way, none.
-fn toggled_place(seed: u64, way: usize, n: usize) -> usize {
-    if way == DAMAGED {
-        return how_many(n);
-    }
-    index(seed, nth(TOGGLED, way), how_many(n))
+// How many lists are put: of the subsets of the pool each, where there are few.
+pub fn how_many_lists(pool: &[u8]) -> usize {
+    plus(WAYS, upto(1 << upto(pool.len() / 4, MOST), SAMPLE))
 }
 
-// The k-th subset that is judged of m: each, where there are few.
-fn sampled(seed: u64, k: usize, m: usize) -> usize {
-    if m <= SAMPLE {
-        return k;
-    }
-    index(seed, nth(SUBSET, k), m)
-}
-
-// Puts a list at the start of out: the base damaged, or with a four toggled, or a subset of the pool; how many bytes that is.
-fn put_list(
+// Puts a list at the start of out: the base damaged, or with a four toggled (the first time, none), or a subset of the pool.
+pub fn put_list<'a>(
     seed: u64,
-    points: &[i32],
+    n: usize,
     base: &[u8],
     pool: &[u8],
     way: usize,
-    out: &mut [u8],
-) -> usize {
-    let n = points.len() / 3;
+    out: &'a mut [u8],
+) -> &'a [u8] {
     if way < DAMAGED {
         return put_damaged(base, n, way, out);
     }
+    let many = how_many(n);
+    if way == DAMAGED {
+        return put_toggled(n, base, many, out);
+    }
     if way < WAYS {
-        return put_toggled(n, base, toggled_place(seed, way, n), out);
+        return put_toggled(n, base, index(seed, TOGGLED, way, many), out);
     }
-    let s = sampled(seed, less(way, WAYS), subsets(pool.len() / 4));
-    put_subset(pool, s, out)
-}
-
-fn with_list(
-    seed: u64,
-    points: &[i32],
-    triangles: &[u8],
-    kept: &[u8],
-    table: &[i32],
-    base: &[u8],
-    pool: &[u8],
-    way: usize,
-    tally: Tally,
-) -> Tally {
-    let mut room = [0u8; ROOM];
-    let n = upto(put_list(seed, points, base, pool, way, &mut room), ROOM);
-    judged(seed, points, triangles, kept, table, &room[0..n], tally)
-}
-
-// Compares the judge on lists near the base, which is a filling or the chosen fours, and on subsets of the pool.
-pub(crate) fn with_lists(
-    seed: u64,
-    points: &[i32],
-    triangles: &[u8],
-    kept: &[u8],
-    table: &[i32],
-    base: &[u8],
-    pool: &[u8],
-    tally: Tally,
-) -> Tally {
-    let mut t = tally;
-    for way in 0..offset(WAYS, upto(subsets(pool.len() / 4), SAMPLE)) {
-        t = with_list(seed, points, triangles, kept, table, base, pool, way, t);
+    let k = way - WAYS;
+    let m = 1 << upto(pool.len() / 4, MOST);
+    if m <= SAMPLE {
+        return put_subset(pool, k, out);
     }
-    t
+    put_subset(pool, index(seed, SUBSET, k, m), out)
 }

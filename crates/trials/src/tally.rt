@@ -1,36 +1,36 @@
 // What was compared, by the kind of answer, so that nobody can take an empty run for a pass.
-use lines::tally::next;
+use enumerator::enumerate::Best;
+use enumerator::read::byte_at;
+use lines::list::upto;
+use lines::tally::Counts;
 use lines::tally::print;
 use lines::tally::print_count;
-use lines::tally::print_counts;
+use random_jobs::points::has_void;
+use std::num::wrapping_add_usize as plus;
 
-// Counts in the order in which they are printed. Jobs by the number that they are answered with: 2 to 15 behind JOBS, and FILLED; lists judged of accepted jobs from
-// LAWS on, by the lowest law broken, 0 for lawful ones.
-pub struct Tally {
-    counts: [u64; 34],
-}
+// Where is counted, in the order in which the counts are printed. Jobs by the number that they are answered with: 2 to 15 behind JOBS, and then 0.
+const JOBS: usize = 0;
 
-pub(crate) const JOBS: usize = 0;
+const SEVERAL: usize = 16;
 
-const FILLED: usize = 15;
+const TIES: usize = 17;
 
-pub(crate) const SEVERAL: usize = 16;
+const INNER: usize = 18;
 
-pub(crate) const TIES: usize = 17;
+const KEPT: usize = 19;
 
-pub(crate) const INNER: usize = 18;
+const PARTS: usize = 20;
 
-pub(crate) const KEPT: usize = 19;
-
-pub(crate) const PARTS: usize = 20;
-
-pub(crate) const VOIDS: usize = 21;
+const VOIDS: usize = 21;
 
 // Accepted jobs with too many fours for the enumerator; they are not compared further.
-pub(crate) const SKIPPED: usize = 22;
+const SKIPPED: usize = 22;
+
+// Lists judged of accepted jobs, by the lowest law broken, 0 for lawful ones.
+pub const LAWS: usize = 23;
 
 // Lists judged of refused jobs.
-pub(crate) const REFUSED: usize = 31;
+pub const REFUSED: usize = 31;
 
 const COMPARED: usize = 32;
 
@@ -39,72 +39,69 @@ const DIFFERENT: usize = 33;
 // The most differences that are named.
 const NAMED: u64 = 10;
 
-// Where jobs that are answered with this number are counted; past the end where there are none.
-fn number_place(number: u32) -> usize {
-    match number {
-        0 => FILLED,
-        2..=15 => number as usize - 1,
-        _ => 34,
+// One more comparison, of the job with this seed.
+pub fn with_comparison(tally: Counts, agrees: bool, seed: u64, what: &[u8]) -> Counts {
+    let t = tally.more(COMPARED);
+    if agrees {
+        return t;
     }
+    let all = t.more(DIFFERENT);
+    if all.count(DIFFERENT) <= NAMED {
+        print(what);
+        print_count(seed, b" differs\n");
+    }
+    all
 }
 
-impl Tally {
-    pub fn new() -> Self {
-        Tally { counts: [0; 34] }
-    }
+// One more job, with the number that it is answered with.
+pub fn with_answer(tally: Counts, number: u32, agrees: bool, seed: u64) -> Counts {
+    let t = tally.more(JOBS);
+    let all = t.more((number as usize + 15) % 16);
+    with_comparison(all, agrees, seed, b"search: job ")
+}
 
-    // One more of what is counted there.
-    pub(crate) fn more(mut self, at: usize) -> Self {
-        if at < 34 {
-            self.counts[at] = next(self.counts[at]);
-        }
-        self
-    }
+pub fn with_skipped(tally: Counts) -> Counts {
+    let t = tally.more(JOBS);
+    t.more(SKIPPED)
+}
 
-    pub(crate) fn more_if(self, is_one: bool, at: usize) -> Self {
-        if is_one { self.more(at) } else { self }
+// Whether some point is no corner of the boundary: the corners are gathered as bits.
+fn has_inner_point(n: usize, triangles: &[u8]) -> bool {
+    let mut corners: usize = 0;
+    for i in 0..triangles.len() {
+        corners = corners | (1 << upto(byte_at(triangles, i, 0), 16));
     }
+    plus(corners, 1) != 1 << upto(n, 16)
+}
 
-    fn count(self, at: usize) -> u64 {
-        if at < 34 { self.counts[at] } else { 0 }
-    }
+// Counts what kind of filled job it is.
+pub fn with_filled(
+    seed: u64,
+    points: &[i32],
+    triangles: &[u8],
+    kept: &[u8],
+    list: &[u8],
+    best: Best,
+    tally: Counts,
+) -> Counts {
+    let a = tally.more_if(best.lawful > 1, SEVERAL);
+    let b = a.more_if(best.ties > 1, TIES);
+    let c = b.more_if(has_inner_point(points.len() / 3, triangles), INNER);
+    let d = c.more_if(kept.len() > 0, KEPT);
+    // As many boundary triangles as faces: no two tetrahedra share one.
+    let is_parted = (list.len() > 4) & (triangles.len() / 3 == list.len());
+    let e = d.more_if(is_parted, PARTS);
+    e.more_if(has_void(seed), VOIDS)
+}
 
-    // One more list that breaks this law.
-    pub(crate) fn with_law(self, law: u32) -> Self {
-        self.more(if law < 8 { 23 + law as usize } else { 34 })
-    }
-
-    // One more comparison, of the job with this seed.
-    pub fn with_comparison(self, agrees: bool, seed: u64, what: &[u8]) -> Self {
-        let t = self.more(COMPARED);
-        if agrees {
-            return t;
-        }
-        let all = t.more(DIFFERENT);
-        if all.count(DIFFERENT) <= NAMED {
-            print(what);
-            print_count(seed, b" differs\n");
-        }
-        all
-    }
-
-    // One more job, with what the search answers to it.
-    pub fn with_answer(self, number: u32, agrees: bool, seed: u64) -> Self {
-        let t = self.more(JOBS);
-        let all = t.more(number_place(number));
-        all.with_comparison(agrees, seed, b"search: job ")
-    }
-
-    pub fn print(self) {
-        let counts = self.counts;
-        print_counts(
-            &counts,
-            b" jobs\n; answered 2\n; answered 3\n; answered 4\n; answered 5\n; answered 6\n; answered 7\n; answered 8\n; answered 9\n; answered 10\n; answered 11\n; \
-            answered 12\n; answered 13\n; answered 14\n; answered 15\n; filled\n; with several lawful fillings\n; with several of the best worst quality\n; \
-            filled with a point off the boundary\n; filled with kept edges\n; filled in several components, of a tetrahedron each\n; filled around a void\n; \
-            skipped\n; lists judged lawful\n; lists judged to break law 1\n; lists judged to break law 2\n; lists judged to break law 3\n; lists judged to break \
-            law 4\n; lists judged to break law 5\n; lists judged to break law 6\n; lists judged to break law 7\n; lists judged of refused jobs\n; compared, ; \
-            different\n;",
-        );
-    }
+pub fn print_tally(tally: Counts) {
+    tally.print(
+        0,
+        b" jobs\n; answered 2\n; answered 3\n; answered 4\n; answered 5\n; answered 6\n; answered 7\n; answered 8\n; answered 9\n; answered 10\n; answered 11\n; \
+        answered 12\n; answered 13\n; answered 14\n; answered 15\n; filled\n; with several lawful fillings\n; with several of the best worst quality\n; \
+        filled with a point off the boundary\n; filled with kept edges\n; filled in several components, of a tetrahedron each\n; filled around a void\n; \
+        skipped\n; lists judged lawful\n; lists judged to break law 1\n; lists judged to break law 2\n; lists judged to break law 3\n; lists judged to break \
+        law 4\n; lists judged to break law 5\n; lists judged to break law 6\n; lists judged to break law 7\n; lists judged of refused jobs\n; compared, ; \
+        different\n;",
+    );
 }

@@ -1,11 +1,11 @@
 -- `apart_cases::report::is_same_in_order` is safe and ends. Assumes nothing.
-use Prim.Native.Nat.{_≤_, _-_}
+use Prim.Native.Nat.{_-_}
 use borrow.Author.Needs.{needs}
 use Rattle.apart_cases.proofs.report.is_same_in_order.Statement.{statement}
 use Rattle.apart_cases.proofs.report.is_same_in_order.Tie as tie
 
 abbrev Inv-loop : tie.InvT-loop
-Inv-loop points f g answer k₀ k = k ≤ 36
+Inv-loop points f g answer k₀ k = Unit {0}
 
 abbrev μ-loop : tie.MeasureT-loop
 μ-loop points f g answer k₀ k = 36 - k
@@ -21,6 +21,9 @@ in-order-requires-2 c κs = search needs
 
 apart-requires : tie.Need-apart-requires Inv-loop μ-loop
 apart-requires c κs = search needs
+
+apart-requires-2 : tie.Need-apart-requires-2 Inv-loop μ-loop
+apart-requires-2 c κs = search needs
 
 returns : tie.Need-returns Inv-loop μ-loop
 returns c = search needs
@@ -47,6 +50,7 @@ is-same-in-order-spec =
     in-order-requires
     in-order-requires-2
     apart-requires
+    apart-requires-2
     returns
     add-k
     loop-less

@@ -7,16 +7,16 @@ use Rattle.apart_cases.proofs.report.report_all.Statement.{statement}
 use Rattle.apart_cases.proofs.report.report_all.Tie as tie
 
 abbrev Inv-loop : tie.InvT-loop
-Inv-loop text rest₀ rest = Unit {0}
+Inv-loop text at₀ at = Unit {0}
 
 abbrev μ-loop : tie.MeasureT-loop
-μ-loop text rest₀ rest = length rest
+μ-loop text at₀ at = length text - at
 
 loop-holds : tie.Need-loop-holds Inv-loop μ-loop
 loop-holds c = search needs
 
-before-requires : tie.Need-before-requires Inv-loop μ-loop
-before-requires c κs = search needs
+part-requires : tie.Need-part-requires Inv-loop μ-loop
+part-requires c κs = search needs
 
 report-requires : tie.Need-report-requires Inv-loop μ-loop
 report-requires c κs = search needs
@@ -24,17 +24,9 @@ report-requires c κs = search needs
 past-requires : tie.Need-past-requires Inv-loop μ-loop
 past-requires c κs = search needs
 
-sub-rest : tie.Need-sub-rest Inv-loop μ-loop
-sub-rest c = search needs
-
-part-rest-start : tie.Need-part-rest-start Inv-loop μ-loop
-part-rest-start c = search needs
-
-part-rest-end : tie.Need-part-rest-end Inv-loop μ-loop
-part-rest-end c = search needs
-
 loop-less : tie.Need-loop-less Inv-loop μ-loop
-loop-less c = omega (arith, c .rest .given, c .before .past .ensures .0, c .before .past .ensures .1 (omega arith))
+loop-less c =
+    omega (arith, c .past .ensures .1 (c .before .before .before .loop-test .taken))
 
 loop-again : tie.Need-loop-again Inv-loop μ-loop
 loop-again c = search needs
@@ -49,12 +41,9 @@ report-all-spec =
     Inv-loop
     μ-loop
     loop-holds
-    before-requires
+    part-requires
     report-requires
     past-requires
-    sub-rest
-    part-rest-start
-    part-rest-end
     loop-less
     loop-again
     returns)

@@ -1,4 +1,5 @@
 -- `bench_cases::session::tally_of` is safe and ends. Assumes nothing.
+use Prim.Native.Nat.{_-_}
 use native.Mathlib.Omega.{arith}
 use lib.ListN.{length}
 use borrow.Author.Needs.{needs}
@@ -6,10 +7,10 @@ use Rattle.bench_cases.proofs.session.tally_of.Statement.{statement}
 use Rattle.bench_cases.proofs.session.tally_of.Tie as tie
 
 abbrev Inv-loop : tie.InvT-loop
-Inv-loop text bench₀ earlier₀ t₀ rest₀ bench earlier t rest = Unit {0}
+Inv-loop text bench₀ earlier₀ t₀ at₀ bench earlier t at = Unit {0}
 
 abbrev μ-loop : tie.MeasureT-loop
-μ-loop text bench₀ earlier₀ t₀ rest₀ bench earlier t rest = length rest
+μ-loop text bench₀ earlier₀ t₀ at₀ bench earlier t at = length text - at
 
 new-requires : tie.Need-new-requires Inv-loop μ-loop
 new-requires c κs = search needs
@@ -23,14 +24,8 @@ new-requires-3 c κs = search needs
 loop-holds : tie.Need-loop-holds Inv-loop μ-loop
 loop-holds c = search needs
 
-before-requires : tie.Need-before-requires Inv-loop μ-loop
-before-requires c κs = search needs
-
-letter-of-requires : tie.Need-letter-of-requires Inv-loop μ-loop
-letter-of-requires c κs = search needs
-
-after-requires : tie.Need-after-requires Inv-loop μ-loop
-after-requires c κs = search needs
+part-requires : tie.Need-part-requires Inv-loop μ-loop
+part-requires c κs = search needs
 
 stepped-requires : tie.Need-stepped-requires Inv-loop μ-loop
 stepped-requires c κs = search needs
@@ -41,17 +36,9 @@ with-line-requires c κs = search needs
 past-requires : tie.Need-past-requires Inv-loop μ-loop
 past-requires c κs = search needs
 
-sub-rest : tie.Need-sub-rest Inv-loop μ-loop
-sub-rest c = search needs
-
-part-rest-start : tie.Need-part-rest-start Inv-loop μ-loop
-part-rest-start c = search needs
-
-part-rest-end : tie.Need-part-rest-end Inv-loop μ-loop
-part-rest-end c = search needs
-
 loop-less : tie.Need-loop-less Inv-loop μ-loop
-loop-less c = omega (arith, c .rest .given, c .before .past .ensures .0, c .before .past .ensures .1 (omega arith))
+loop-less c =
+    omega (arith, c .past .ensures .1 (c .before .before .before .before .before .before .before .loop-test .taken))
 
 loop-again : tie.Need-loop-again Inv-loop μ-loop
 loop-again c = search needs
@@ -69,15 +56,10 @@ tally-of-spec =
     new-requires-2
     new-requires-3
     loop-holds
-    before-requires
-    letter-of-requires
-    after-requires
+    part-requires
     stepped-requires
     with-line-requires
     past-requires
-    sub-rest
-    part-rest-start
-    part-rest-end
     loop-less
     loop-again
     returns)

@@ -21,8 +21,8 @@ listed-requires c κs = search needs
 place-of-requires : tie.Need-place-of-requires Inv-loop μ-loop
 place-of-requires c κs = search needs
 
-put-number-requires : tie.Need-put-number-requires Inv-loop μ-loop
-put-number-requires c κs = search needs
+put-integer-requires : tie.Need-put-integer-requires Inv-loop μ-loop
+put-integer-requires c κs = search needs
 
 add-i : tie.Need-add-i Inv-loop μ-loop
 add-i c = search needs
@@ -48,7 +48,7 @@ put-open-spec =
     loop-holds
     listed-requires
     place-of-requires
-    put-number-requires
+    put-integer-requires
     add-i
     loop-less
     loop-again

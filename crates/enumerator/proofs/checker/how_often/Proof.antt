@@ -16,8 +16,11 @@ loop-holds c = search needs
 triangle-at-requires : tie.Need-triangle-at-requires Inv-loop μ-loop
 triangle-at-requires c κs = search needs
 
-up-requires : tie.Need-up-requires Inv-loop μ-loop
-up-requires c κs = search needs
+has-edge-requires : tie.Need-has-edge-requires Inv-loop μ-loop
+has-edge-requires c κs = search needs
+
+wrapping-add-usize-requires : tie.Need-wrapping-add-usize-requires Inv-loop μ-loop
+wrapping-add-usize-requires c κs = search needs
 
 add-i : tie.Need-add-i Inv-loop μ-loop
 add-i c = search needs
@@ -39,7 +42,8 @@ how-often-spec =
     μ-loop
     loop-holds
     triangle-at-requires
-    up-requires
+    has-edge-requires
+    wrapping-add-usize-requires
     add-i
     loop-less
     loop-again

@@ -5,13 +5,13 @@ use Rattle.enumerator.proofs.checker.is_refused.Statement.{statement}
 use Rattle.enumerator.proofs.checker.is_refused.Tie as tie
 
 abbrev Inv-loop : tie.InvT-loop
-Inv-loop number points triangles kept table i₀ i-end i = Unit {0}
+Inv-loop number points triangles kept table many i₀ i-end i = Unit {0}
 
 abbrev μ-loop : tie.MeasureT-loop
-μ-loop number points triangles kept table i₀ i-end i = i-end - i
+μ-loop number points triangles kept table many i₀ i-end i = i-end - i
 
-things-requires : tie.Need-things-requires Inv-loop μ-loop
-things-requires c κs = search needs
+upto-requires : tie.Need-upto-requires Inv-loop μ-loop
+upto-requires c κs = search needs
 
 loop-holds : tie.Need-loop-holds Inv-loop μ-loop
 loop-holds c = search needs
@@ -40,7 +40,7 @@ is-refused-spec =
     (tie.spec
     Inv-loop
     μ-loop
-    things-requires
+    upto-requires
     loop-holds
     is-wrong-requires
     returns

@@ -5,16 +5,37 @@ use Rattle.enumerator.proofs.checker.is_taken.Statement.{statement}
 use Rattle.enumerator.proofs.checker.is_taken.Tie as tie
 
 abbrev Inv-loop : tie.InvT-loop
-Inv-loop points p q₀ q = Unit {0}
+Inv-loop points p i q₀ q = Unit {0}
 
 abbrev μ-loop : tie.MeasureT-loop
-μ-loop points p q₀ q = p - q
+μ-loop points p i q₀ q = p - q
+
+start-requires : tie.Need-start-requires Inv-loop μ-loop
+start-requires c κs = search needs
 
 loop-holds : tie.Need-loop-holds Inv-loop μ-loop
 loop-holds c = search needs
 
-is-one-place-requires : tie.Need-is-one-place-requires Inv-loop μ-loop
-is-one-place-requires c κs = search needs
+start-requires-2 : tie.Need-start-requires-2 Inv-loop μ-loop
+start-requires-2 c κs = search needs
+
+number-at-requires : tie.Need-number-at-requires Inv-loop μ-loop
+number-at-requires c κs = search needs
+
+number-at-requires-2 : tie.Need-number-at-requires-2 Inv-loop μ-loop
+number-at-requires-2 c κs = search needs
+
+number-at-requires-3 : tie.Need-number-at-requires-3 Inv-loop μ-loop
+number-at-requires-3 c κs = search needs
+
+number-at-requires-4 : tie.Need-number-at-requires-4 Inv-loop μ-loop
+number-at-requires-4 c κs = search needs
+
+number-at-requires-5 : tie.Need-number-at-requires-5 Inv-loop μ-loop
+number-at-requires-5 c κs = search needs
+
+number-at-requires-6 : tie.Need-number-at-requires-6 Inv-loop μ-loop
+number-at-requires-6 c κs = search needs
 
 returns : tie.Need-returns Inv-loop μ-loop
 returns c = search needs
@@ -37,8 +58,15 @@ is-taken-spec =
     (tie.spec
     Inv-loop
     μ-loop
+    start-requires
     loop-holds
-    is-one-place-requires
+    start-requires-2
+    number-at-requires
+    number-at-requires-2
+    number-at-requires-3
+    number-at-requires-4
+    number-at-requires-5
+    number-at-requires-6
     returns
     add-q
     loop-less

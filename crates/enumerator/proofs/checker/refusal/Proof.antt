@@ -13,6 +13,9 @@ abbrev μ-loop : tie.MeasureT-loop
 loop-holds : tie.Need-loop-holds Inv-loop μ-loop
 loop-holds c = search needs
 
+is-miscounted-requires : tie.Need-is-miscounted-requires Inv-loop μ-loop
+is-miscounted-requires c κs = search needs
+
 is-refused-requires : tie.Need-is-refused-requires Inv-loop μ-loop
 is-refused-requires c κs = search needs
 
@@ -38,6 +41,7 @@ refusal-spec =
     Inv-loop
     μ-loop
     loop-holds
+    is-miscounted-requires
     is-refused-requires
     returns
     add-number

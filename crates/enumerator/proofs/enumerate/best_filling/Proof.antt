@@ -10,14 +10,29 @@ Inv-loop points triangles kept table pool best₀ s₀ s-end best s = Unit {0}
 abbrev μ-loop : tie.MeasureT-loop
 μ-loop points triangles kept table pool best₀ s₀ s-end best s = s-end - s
 
-subsets-requires : tie.Need-subsets-requires Inv-loop μ-loop
-subsets-requires c κs = search needs
+upto-requires : tie.Need-upto-requires Inv-loop μ-loop
+upto-requires c κs = search needs
+
+shl-s-end : tie.Need-shl-s-end Inv-loop μ-loop
+shl-s-end c = search needs
 
 loop-holds : tie.Need-loop-holds Inv-loop μ-loop
 loop-holds c = search needs
 
-tried-requires : tie.Need-tried-requires Inv-loop μ-loop
-tried-requires c κs = search needs
+slice-aggregate-put-subset : tie.Need-slice-aggregate-put-subset Inv-loop μ-loop
+slice-aggregate-put-subset c = search needs
+
+put-subset-requires : tie.Need-put-subset-requires Inv-loop μ-loop
+put-subset-requires c κs = search needs
+
+lowest-broken-requires : tie.Need-lowest-broken-requires Inv-loop μ-loop
+lowest-broken-requires c κs = search needs
+
+worst-requires : tie.Need-worst-requires Inv-loop μ-loop
+worst-requires c κs = search needs
+
+with-lawful-requires : tie.Need-with-lawful-requires Inv-loop μ-loop
+with-lawful-requires c κs = search needs
 
 add-s : tie.Need-add-s Inv-loop μ-loop
 add-s c = search needs
@@ -37,9 +52,14 @@ best-filling-spec =
     (tie.spec
     Inv-loop
     μ-loop
-    subsets-requires
+    upto-requires
+    shl-s-end
     loop-holds
-    tried-requires
+    slice-aggregate-put-subset
+    put-subset-requires
+    lowest-broken-requires
+    worst-requires
+    with-lawful-requires
     add-s
     loop-less
     loop-again

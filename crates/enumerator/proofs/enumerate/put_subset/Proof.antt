@@ -1,31 +1,35 @@
 -- `enumerator::enumerate::put_subset` is safe and ends. Assumes nothing.
 use Prim.Native.Nat.{_-_}
-use mathlib.Core.Path.{_≡_}
-use lib.ListN.{length}
 use borrow.Author.Needs.{needs}
 use Rattle.enumerator.proofs.enumerate.put_subset.Statement.{statement}
 use Rattle.enumerator.proofs.enumerate.put_subset.Tie as tie
 
 abbrev Inv-loop : tie.InvT-loop
-Inv-loop pool s out₀ n₀ rest₀ k₀ k-end out n rest k = length out ≡ length out₀
+Inv-loop pool s out₀ n₀ i₀ i-end out n i = Unit {0}
 
 abbrev μ-loop : tie.MeasureT-loop
-μ-loop pool s out₀ n₀ rest₀ k₀ k-end out n rest k = k-end - k
+μ-loop pool s out₀ n₀ i₀ i-end out n i = i-end - i
 
 loop-holds : tie.Need-loop-holds Inv-loop μ-loop
 loop-holds c = search needs
 
-listed-requires : tie.Need-listed-requires Inv-loop μ-loop
-listed-requires c κs = search needs
+byte-at-requires : tie.Need-byte-at-requires Inv-loop μ-loop
+byte-at-requires c κs = search needs
 
-put-four-requires : tie.Need-put-four-requires Inv-loop μ-loop
-put-four-requires c κs = search needs
+put-requires : tie.Need-put-requires Inv-loop μ-loop
+put-requires c κs = search needs
 
-offset-requires : tie.Need-offset-requires Inv-loop μ-loop
-offset-requires c κs = search needs
+upto-requires : tie.Need-upto-requires Inv-loop μ-loop
+upto-requires c κs = search needs
 
-add-k : tie.Need-add-k Inv-loop μ-loop
-add-k c = search needs
+shr-if1 : tie.Need-shr-if1 Inv-loop μ-loop
+shr-if1 c = search needs
+
+wrapping-add-usize-requires : tie.Need-wrapping-add-usize-requires Inv-loop μ-loop
+wrapping-add-usize-requires c κs = search needs
+
+add-i : tie.Need-add-i Inv-loop μ-loop
+add-i c = search needs
 
 loop-less : tie.Need-loop-less Inv-loop μ-loop
 loop-less c = search needs
@@ -33,8 +37,8 @@ loop-less c = search needs
 loop-again : tie.Need-loop-again Inv-loop μ-loop
 loop-again c = search needs
 
-same-length : tie.Need-same-length Inv-loop μ-loop
-same-length c = search needs
+front-requires : tie.Need-front-requires Inv-loop μ-loop
+front-requires c κs = search needs
 
 returns : tie.Need-returns Inv-loop μ-loop
 returns c = search needs
@@ -46,11 +50,13 @@ put-subset-spec =
     Inv-loop
     μ-loop
     loop-holds
-    listed-requires
-    put-four-requires
-    offset-requires
-    add-k
+    byte-at-requires
+    put-requires
+    upto-requires
+    shr-if1
+    wrapping-add-usize-requires
+    add-i
     loop-less
     loop-again
-    same-length
+    front-requires
     returns)

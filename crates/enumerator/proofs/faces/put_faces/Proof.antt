@@ -1,13 +1,11 @@
 -- `enumerator::faces::put_faces` is safe and ends. Assumes nothing.
 use Prim.Native.Nat.{_-_}
-use mathlib.Core.Path.{_≡_}
-use lib.ListN.{length}
 use borrow.Author.Needs.{needs}
 use Rattle.enumerator.proofs.faces.put_faces.Statement.{statement}
 use Rattle.enumerator.proofs.faces.put_faces.Tie as tie
 
 abbrev Inv-loop : tie.InvT-loop
-Inv-loop points list out₀ n i₀ out i = length out ≡ length out₀
+Inv-loop points list out₀ n i₀ out i = Unit {0}
 
 abbrev μ-loop : tie.MeasureT-loop
 μ-loop points list out₀ n i₀ out i = n - i
@@ -24,8 +22,11 @@ turned-requires c κs = search needs
 start-requires : tie.Need-start-requires Inv-loop μ-loop
 start-requires c κs = search needs
 
-put-four-faces-requires : tie.Need-put-four-faces-requires Inv-loop μ-loop
-put-four-faces-requires c κs = search needs
+slice-aggregate-put-all : tie.Need-slice-aggregate-put-all Inv-loop μ-loop
+slice-aggregate-put-all c = search needs
+
+put-all-requires : tie.Need-put-all-requires Inv-loop μ-loop
+put-all-requires c κs = search needs
 
 add-i : tie.Need-add-i Inv-loop μ-loop
 add-i c = search needs
@@ -39,8 +40,8 @@ loop-again c = search needs
 start-requires-2 : tie.Need-start-requires-2 Inv-loop μ-loop
 start-requires-2 c κs = search needs
 
-same-length : tie.Need-same-length Inv-loop μ-loop
-same-length c = search needs
+front-requires : tie.Need-front-requires Inv-loop μ-loop
+front-requires c κs = search needs
 
 returns : tie.Need-returns Inv-loop μ-loop
 returns c = search needs
@@ -55,10 +56,11 @@ put-faces-spec =
     listed-requires
     turned-requires
     start-requires
-    put-four-faces-requires
+    slice-aggregate-put-all
+    put-all-requires
     add-i
     loop-less
     loop-again
     start-requires-2
-    same-length
+    front-requires
     returns)

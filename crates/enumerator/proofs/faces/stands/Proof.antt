@@ -16,8 +16,11 @@ loop-holds c = search needs
 triangle-at-requires : tie.Need-triangle-at-requires Inv-loop μ-loop
 triangle-at-requires c κs = search needs
 
-is-same-requires : tie.Need-is-same-requires Inv-loop μ-loop
-is-same-requires c κs = search needs
+has-edge-requires : tie.Need-has-edge-requires Inv-loop μ-loop
+has-edge-requires c κs = search needs
+
+has-edge-requires-2 : tie.Need-has-edge-requires-2 Inv-loop μ-loop
+has-edge-requires-2 c κs = search needs
 
 returns : tie.Need-returns Inv-loop μ-loop
 returns c = search needs
@@ -42,7 +45,8 @@ stands-spec =
     μ-loop
     loop-holds
     triangle-at-requires
-    is-same-requires
+    has-edge-requires
+    has-edge-requires-2
     returns
     add-i
     loop-less

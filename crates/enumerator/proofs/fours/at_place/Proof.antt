@@ -10,9 +10,6 @@ Inv-loop n k f₀ i₀ f i = Unit {0}
 abbrev μ-loop : tie.MeasureT-loop
 μ-loop n k f₀ i₀ f i = k - i
 
-first-requires : tie.Need-first-requires Inv-loop μ-loop
-first-requires c κs = search needs
-
 loop-holds : tie.Need-loop-holds Inv-loop μ-loop
 loop-holds c = search needs
 
@@ -34,13 +31,4 @@ returns c = search needs
 pub at-place-spec : {M : Type 1} → statement M
 at-place-spec =
     tie.close
-    (tie.spec
-    Inv-loop
-    μ-loop
-    first-requires
-    loop-holds
-    after-requires
-    add-i
-    loop-less
-    loop-again
-    returns)
+    (tie.spec Inv-loop μ-loop loop-holds after-requires add-i loop-less loop-again returns)

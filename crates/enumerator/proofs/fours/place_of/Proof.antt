@@ -10,14 +10,8 @@ Inv-loop n f g₀ k₀ g k = Unit {0}
 abbrev μ-loop : tie.MeasureT-loop
 μ-loop n f g₀ k₀ g k = 4000 - k
 
-first-requires : tie.Need-first-requires Inv-loop μ-loop
-first-requires c κs = search needs
-
 loop-holds : tie.Need-loop-holds Inv-loop μ-loop
 loop-holds c = search needs
-
-is-same-requires : tie.Need-is-same-requires Inv-loop μ-loop
-is-same-requires c κs = search needs
 
 returns : tie.Need-returns Inv-loop μ-loop
 returns c = search needs
@@ -43,9 +37,7 @@ place-of-spec =
     (tie.spec
     Inv-loop
     μ-loop
-    first-requires
     loop-holds
-    is-same-requires
     returns
     after-requires
     add-k

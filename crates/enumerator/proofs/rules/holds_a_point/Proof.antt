@@ -5,13 +5,10 @@ use Rattle.enumerator.proofs.rules.holds_a_point.Statement.{statement}
 use Rattle.enumerator.proofs.rules.holds_a_point.Tie as tie
 
 abbrev Inv-loop : tie.InvT-loop
-Inv-loop points t p₀ p-end p = Unit {0}
+Inv-loop points f p₀ p-end p = Unit {0}
 
 abbrev μ-loop : tie.MeasureT-loop
-μ-loop points t p₀ p-end p = p-end - p
-
-turned-requires : tie.Need-turned-requires Inv-loop μ-loop
-turned-requires c κs = search needs
+μ-loop points f p₀ p-end p = p-end - p
 
 loop-holds : tie.Need-loop-holds Inv-loop μ-loop
 loop-holds c = search needs
@@ -40,7 +37,6 @@ holds-a-point-spec =
     (tie.spec
     Inv-loop
     μ-loop
-    turned-requires
     loop-holds
     inside-requires
     returns

@@ -5,19 +5,13 @@ use Rattle.enumerator.proofs.rules.is_broken.Statement.{statement}
 use Rattle.enumerator.proofs.rules.is_broken.Tie as tie
 
 abbrev Inv-loop : tie.InvT-loop
-Inv-loop law points triangles kept table list i₀ i-end i = Unit {0}
+Inv-loop law points triangles kept table list many i₀ i-end i = Unit {0}
 
 abbrev μ-loop : tie.MeasureT-loop
-μ-loop law points triangles kept table list i₀ i-end i = i-end - i
+μ-loop law points triangles kept table list many i₀ i-end i = i-end - i
 
-keeps-4-requires : tie.Need-keeps-4-requires Inv-loop μ-loop
-keeps-4-requires c κs = search needs
-
-returns : tie.Need-returns Inv-loop μ-loop
-returns c = search needs
-
-things-requires : tie.Need-things-requires Inv-loop μ-loop
-things-requires c κs = search needs
+upto-requires : tie.Need-upto-requires Inv-loop μ-loop
+upto-requires c κs = search needs
 
 loop-holds : tie.Need-loop-holds Inv-loop μ-loop
 loop-holds c = search needs
@@ -25,8 +19,8 @@ loop-holds c = search needs
 breaks-requires : tie.Need-breaks-requires Inv-loop μ-loop
 breaks-requires c κs = search needs
 
-returns-2 : tie.Need-returns-2 Inv-loop μ-loop
-returns-2 c = search needs
+returns : tie.Need-returns Inv-loop μ-loop
+returns c = search needs
 
 add-i : tie.Need-add-i Inv-loop μ-loop
 add-i c = search needs
@@ -37,8 +31,8 @@ loop-less c = search needs
 loop-again : tie.Need-loop-again Inv-loop μ-loop
 loop-again c = search needs
 
-returns-3 : tie.Need-returns-3 Inv-loop μ-loop
-returns-3 c = search needs
+returns-2 : tie.Need-returns-2 Inv-loop μ-loop
+returns-2 c = search needs
 
 pub is-broken-spec : {M : Type 1} → statement M
 is-broken-spec =
@@ -46,13 +40,11 @@ is-broken-spec =
     (tie.spec
     Inv-loop
     μ-loop
-    keeps-4-requires
-    returns
-    things-requires
+    upto-requires
     loop-holds
     breaks-requires
-    returns-2
+    returns
     add-i
     loop-less
     loop-again
-    returns-3)
+    returns-2)

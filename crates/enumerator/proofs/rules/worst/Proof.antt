@@ -19,9 +19,6 @@ listed-requires c κs = search needs
 entry-requires : tie.Need-entry-requires Inv-loop μ-loop
 entry-requires c κs = search needs
 
-quality-requires : tie.Need-quality-requires Inv-loop μ-loop
-quality-requires c κs = search needs
-
 add-i : tie.Need-add-i Inv-loop μ-loop
 add-i c = search needs
 
@@ -43,7 +40,6 @@ worst-spec =
     loop-holds
     listed-requires
     entry-requires
-    quality-requires
     add-i
     loop-less
     loop-again

@@ -1,4 +1,5 @@
 -- `law_cases::tally::tally_of` is safe and ends. Assumes nothing.
+use Prim.Native.Nat.{_-_}
 use native.Mathlib.Omega.{arith}
 use lib.ListN.{length}
 use borrow.Author.Needs.{needs}
@@ -6,10 +7,10 @@ use Rattle.law_cases.proofs.tally.tally_of.Statement.{statement}
 use Rattle.law_cases.proofs.tally.tally_of.Tie as tie
 
 abbrev Inv-loop : tie.InvT-loop
-Inv-loop text t₀ job₀ rest₀ t job rest = Unit {0}
+Inv-loop text t₀ job₀ at₀ t job at = Unit {0}
 
 abbrev μ-loop : tie.MeasureT-loop
-μ-loop text t₀ job₀ rest₀ t job rest = length rest
+μ-loop text t₀ job₀ at₀ t job at = length text - at
 
 new-requires : tie.Need-new-requires Inv-loop μ-loop
 new-requires c κs = search needs
@@ -17,11 +18,14 @@ new-requires c κs = search needs
 loop-holds : tie.Need-loop-holds Inv-loop μ-loop
 loop-holds c = search needs
 
+part-requires : tie.Need-part-requires Inv-loop μ-loop
+part-requires c κs = search needs
+
 before-requires : tie.Need-before-requires Inv-loop μ-loop
 before-requires c κs = search needs
 
-is-job-requires : tie.Need-is-job-requires Inv-loop μ-loop
-is-job-requires c κs = search needs
+letter-requires : tie.Need-letter-requires Inv-loop μ-loop
+letter-requires c κs = search needs
 
 after-requires : tie.Need-after-requires Inv-loop μ-loop
 after-requires c κs = search needs
@@ -29,23 +33,21 @@ after-requires c κs = search needs
 after-requires-2 : tie.Need-after-requires-2 Inv-loop μ-loop
 after-requires-2 c κs = search needs
 
+after-requires-3 : tie.Need-after-requires-3 Inv-loop μ-loop
+after-requires-3 c κs = search needs
+
+played-requires : tie.Need-played-requires Inv-loop μ-loop
+played-requires c κs = search needs
+
 with-line-requires : tie.Need-with-line-requires Inv-loop μ-loop
 with-line-requires c κs = search needs
 
 past-requires : tie.Need-past-requires Inv-loop μ-loop
 past-requires c κs = search needs
 
-sub-rest : tie.Need-sub-rest Inv-loop μ-loop
-sub-rest c = search needs
-
-part-rest-start : tie.Need-part-rest-start Inv-loop μ-loop
-part-rest-start c = search needs
-
-part-rest-end : tie.Need-part-rest-end Inv-loop μ-loop
-part-rest-end c = search needs
-
 loop-less : tie.Need-loop-less Inv-loop μ-loop
-loop-less c = omega (arith, c .rest .given, c .before .past .ensures .0, c .before .past .ensures .1 (omega arith))
+loop-less c =
+    omega (arith, c .past .ensures .1 (c .before .before .before .before .before .before .before .before .loop-test .taken))
 
 loop-again : tie.Need-loop-again Inv-loop μ-loop
 loop-again c = search needs
@@ -61,15 +63,15 @@ tally-of-spec =
     μ-loop
     new-requires
     loop-holds
+    part-requires
     before-requires
-    is-job-requires
+    letter-requires
     after-requires
     after-requires-2
+    after-requires-3
+    played-requires
     with-line-requires
     past-requires
-    sub-rest
-    part-rest-start
-    part-rest-end
     loop-less
     loop-again
     returns)

@@ -1,5 +1,5 @@
 -- `lines::list::fill` is safe and ends. Assumes nothing.
-use Prim.Native.Nat.{_≤_, _-_}
+use Prim.Native.Nat.{_-_}
 use mathlib.Core.Path.{_≡_}
 use lib.ListN.{length}
 use borrow.Author.Needs.{needs}
@@ -7,22 +7,22 @@ use Rattle.lines.proofs.list.fill.Statement.{statement}
 use Rattle.lines.proofs.list.fill.Tie as tie
 
 abbrev Inv-loop : tie.InvT-loop
-Inv-loop out₀ v i₀ i-end out i = (i ≤ i-end) × (i-end ≡ length out₀) × (length out ≡ length out₀)
+Inv-loop out₀ at many v k₀ out k = length out ≡ length out₀
 
 abbrev μ-loop : tie.MeasureT-loop
-μ-loop out₀ v i₀ i-end out i = i-end - i
+μ-loop out₀ at many v k₀ out k = many - k
 
 loop-holds : tie.Need-loop-holds Inv-loop μ-loop
 loop-holds c = search needs
 
-mul-v : tie.Need-mul-v Inv-loop μ-loop
-mul-v c = search needs
+wrapping-add-usize-requires : tie.Need-wrapping-add-usize-requires Inv-loop μ-loop
+wrapping-add-usize-requires c κs = search needs
 
-slice-set-from-v : tie.Need-slice-set-from-v Inv-loop μ-loop
-slice-set-from-v c = search needs
+put-integer-requires : tie.Need-put-integer-requires Inv-loop μ-loop
+put-integer-requires c κs = search needs
 
-add-i : tie.Need-add-i Inv-loop μ-loop
-add-i c = search needs
+add-k : tie.Need-add-k Inv-loop μ-loop
+add-k c = search needs
 
 loop-less : tie.Need-loop-less Inv-loop μ-loop
 loop-less c = search needs
@@ -43,9 +43,9 @@ fill-spec =
     Inv-loop
     μ-loop
     loop-holds
-    mul-v
-    slice-set-from-v
-    add-i
+    wrapping-add-usize-requires
+    put-integer-requires
+    add-k
     loop-less
     loop-again
     same-length

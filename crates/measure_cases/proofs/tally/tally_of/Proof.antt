@@ -7,10 +7,10 @@ use Rattle.measure_cases.proofs.tally.tally_of.Statement.{statement}
 use Rattle.measure_cases.proofs.tally.tally_of.Tie as tie
 
 abbrev Inv-loop : tie.InvT-loop
-Inv-loop text t₀ rest₀ t rest = Unit {0}
+Inv-loop text t₀ at₀ t at = Unit {0}
 
 abbrev μ-loop : tie.MeasureT-loop
-μ-loop text t₀ rest₀ t rest = length rest
+μ-loop text t₀ at₀ t at = length text - at
 
 new-requires : tie.Need-new-requires Inv-loop μ-loop
 new-requires c κs = search needs
@@ -18,29 +18,18 @@ new-requires c κs = search needs
 loop-holds : tie.Need-loop-holds Inv-loop μ-loop
 loop-holds c = search needs
 
-before-requires : tie.Need-before-requires Inv-loop μ-loop
-before-requires c κs = search needs
+part-requires : tie.Need-part-requires Inv-loop μ-loop
+part-requires c κs = search needs
 
 with-line-requires : tie.Need-with-line-requires Inv-loop μ-loop
 with-line-requires c κs = search needs
 
-print-difference-requires : tie.Need-print-difference-requires Inv-loop μ-loop
-print-difference-requires c κs = search needs
-
 past-requires : tie.Need-past-requires Inv-loop μ-loop
 past-requires c κs = search needs
 
-sub-rest : tie.Need-sub-rest Inv-loop μ-loop
-sub-rest c = search needs
-
-part-rest-start : tie.Need-part-rest-start Inv-loop μ-loop
-part-rest-start c = search needs
-
-part-rest-end : tie.Need-part-rest-end Inv-loop μ-loop
-part-rest-end c = search needs
-
 loop-less : tie.Need-loop-less Inv-loop μ-loop
-loop-less c = omega (arith, c .rest .given, c .before .past .ensures .0, c .before .past .ensures .1 (omega arith))
+loop-less c =
+    omega (arith, c .past .ensures .1 (c .before .before .before .loop-test .taken))
 
 loop-again : tie.Need-loop-again Inv-loop μ-loop
 loop-again c = search needs
@@ -56,13 +45,9 @@ tally-of-spec =
     μ-loop
     new-requires
     loop-holds
-    before-requires
+    part-requires
     with-line-requires
-    print-difference-requires
     past-requires
-    sub-rest
-    part-rest-start
-    part-rest-end
     loop-less
     loop-again
     returns)

@@ -13,8 +13,8 @@ abbrev μ-loop : tie.MeasureT-loop
 loop-holds : tie.Need-loop-holds Inv-loop μ-loop
 loop-holds c = search needs
 
-up-requires : tie.Need-up-requires Inv-loop μ-loop
-up-requires c κs = search needs
+add-stands : tie.Need-add-stands Inv-loop μ-loop
+add-stands c = search needs
 
 triangle-at-requires : tie.Need-triangle-at-requires Inv-loop μ-loop
 triangle-at-requires c κs = search needs
@@ -44,7 +44,7 @@ any-twice-spec =
     Inv-loop
     μ-loop
     loop-holds
-    up-requires
+    add-stands
     triangle-at-requires
     stands-requires
     returns

@@ -18,20 +18,20 @@ loop-holds c = search needs
 triangle-at-requires : tie.Need-triangle-at-requires Inv-loop μ-loop
 triangle-at-requires c κs = search needs
 
-side-requires : tie.Need-side-requires Inv-loop μ-loop
-side-requires c κs = search needs
-
-put-triangle-requires : tie.Need-put-triangle-requires Inv-loop μ-loop
-put-triangle-requires c κs = search needs
-
 reversed-requires : tie.Need-reversed-requires Inv-loop μ-loop
 reversed-requires c κs = search needs
+
+slice-aggregate-put-all : tie.Need-slice-aggregate-put-all Inv-loop μ-loop
+slice-aggregate-put-all c = search needs
+
+put-all-requires : tie.Need-put-all-requires Inv-loop μ-loop
+put-all-requires c κs = search needs
 
 stands-requires : tie.Need-stands-requires Inv-loop μ-loop
 stands-requires c κs = search needs
 
-offset-requires : tie.Need-offset-requires Inv-loop μ-loop
-offset-requires c κs = search needs
+wrapping-add-usize-requires : tie.Need-wrapping-add-usize-requires Inv-loop μ-loop
+wrapping-add-usize-requires c κs = search needs
 
 add-i : tie.Need-add-i Inv-loop μ-loop
 add-i c = search needs
@@ -56,11 +56,11 @@ put-unmatched-spec =
     μ-loop
     loop-holds
     triangle-at-requires
-    side-requires
-    put-triangle-requires
     reversed-requires
+    slice-aggregate-put-all
+    put-all-requires
     stands-requires
-    offset-requires
+    wrapping-add-usize-requires
     add-i
     loop-less
     loop-again

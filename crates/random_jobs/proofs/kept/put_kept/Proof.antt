@@ -1,25 +1,20 @@
 -- `random_jobs::kept::put_kept` is safe and ends. Assumes nothing.
 use Prim.Native.Nat.{_-_}
-use mathlib.Core.Path.{_≡_}
-use lib.ListN.{length}
 use borrow.Author.Needs.{needs}
 use Rattle.random_jobs.proofs.kept.put_kept.Statement.{statement}
 use Rattle.random_jobs.proofs.kept.put_kept.Tie as tie
 
 abbrev Inv-loop : tie.InvT-loop
-Inv-loop seed d n chosen out₀ len i₀ i-end out i = length out ≡ length out₀
+Inv-loop seed d n chosen out₀ len more i₀ out i = Unit {0}
 
 abbrev μ-loop : tie.MeasureT-loop
-μ-loop seed d n chosen out₀ len i₀ i-end out i = i-end - i
+μ-loop seed d n chosen out₀ len more i₀ out i = more - i
 
-how-many-edges-requires : tie.Need-how-many-edges-requires Inv-loop μ-loop
-how-many-edges-requires c κs = search needs
+how-many-bytes-requires : tie.Need-how-many-bytes-requires Inv-loop μ-loop
+how-many-bytes-requires c κs = search needs
 
-start-requires : tie.Need-start-requires Inv-loop μ-loop
-start-requires c κs = search needs
-
-offset-requires : tie.Need-offset-requires Inv-loop μ-loop
-offset-requires c κs = search needs
+wrapping-add-usize-requires : tie.Need-wrapping-add-usize-requires Inv-loop μ-loop
+wrapping-add-usize-requires c κs = search needs
 
 loop-holds : tie.Need-loop-holds Inv-loop μ-loop
 loop-holds c = search needs
@@ -39,11 +34,11 @@ loop-less c = search needs
 loop-again : tie.Need-loop-again Inv-loop μ-loop
 loop-again c = search needs
 
-damaged-length-requires : tie.Need-damaged-length-requires Inv-loop μ-loop
-damaged-length-requires c κs = search needs
+wrapping-add-usize-requires-2 : tie.Need-wrapping-add-usize-requires-2 Inv-loop μ-loop
+wrapping-add-usize-requires-2 c κs = search needs
 
-same-length : tie.Need-same-length Inv-loop μ-loop
-same-length c = search needs
+front-requires : tie.Need-front-requires Inv-loop μ-loop
+front-requires c κs = search needs
 
 returns : tie.Need-returns Inv-loop μ-loop
 returns c = search needs
@@ -54,15 +49,14 @@ put-kept-spec =
     (tie.spec
     Inv-loop
     μ-loop
-    how-many-edges-requires
-    start-requires
-    offset-requires
+    how-many-bytes-requires
+    wrapping-add-usize-requires
     loop-holds
     kept-byte-requires
     put-requires
     add-i
     loop-less
     loop-again
-    damaged-length-requires
-    same-length
+    wrapping-add-usize-requires-2
+    front-requires
     returns)

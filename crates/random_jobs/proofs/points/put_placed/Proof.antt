@@ -21,8 +21,8 @@ number-at-requires c κs = search needs
 placed-requires : tie.Need-placed-requires Inv-loop μ-loop
 placed-requires c κs = search needs
 
-put-number-requires : tie.Need-put-number-requires Inv-loop μ-loop
-put-number-requires c κs = search needs
+put-integer-requires : tie.Need-put-integer-requires Inv-loop μ-loop
+put-integer-requires c κs = search needs
 
 add-i : tie.Need-add-i Inv-loop μ-loop
 add-i c = search needs
@@ -48,7 +48,7 @@ put-placed-spec =
     loop-holds
     number-at-requires
     placed-requires
-    put-number-requires
+    put-integer-requires
     add-i
     loop-less
     loop-again

@@ -7,10 +7,10 @@ use Rattle.random_jobs.proofs.points.put_point.Statement.{statement}
 use Rattle.random_jobs.proofs.points.put_point.Tie as tie
 
 abbrev Inv-loop : tie.InvT-loop
-Inv-loop seed p row out₀ at i₀ out i = length out ≡ length out₀
+Inv-loop seed p row out₀ at k₀ out k = length out ≡ length out₀
 
 abbrev μ-loop : tie.MeasureT-loop
-μ-loop seed p row out₀ at i₀ out i = 3 - i
+μ-loop seed p row out₀ at k₀ out k = 3 - k
 
 start-requires : tie.Need-start-requires Inv-loop μ-loop
 start-requires c κs = search needs
@@ -18,20 +18,17 @@ start-requires c κs = search needs
 loop-holds : tie.Need-loop-holds Inv-loop μ-loop
 loop-holds c = search needs
 
-offset-requires : tie.Need-offset-requires Inv-loop μ-loop
-offset-requires c κs = search needs
-
-nth-requires : tie.Need-nth-requires Inv-loop μ-loop
-nth-requires c κs = search needs
+wrapping-add-usize-requires : tie.Need-wrapping-add-usize-requires Inv-loop μ-loop
+wrapping-add-usize-requires c κs = search needs
 
 coordinate-requires : tie.Need-coordinate-requires Inv-loop μ-loop
 coordinate-requires c κs = search needs
 
-put-number-requires : tie.Need-put-number-requires Inv-loop μ-loop
-put-number-requires c κs = search needs
+put-integer-requires : tie.Need-put-integer-requires Inv-loop μ-loop
+put-integer-requires c κs = search needs
 
-add-i : tie.Need-add-i Inv-loop μ-loop
-add-i c = search needs
+add-k : tie.Need-add-k Inv-loop μ-loop
+add-k c = search needs
 
 loop-less : tie.Need-loop-less Inv-loop μ-loop
 loop-less c = search needs
@@ -53,11 +50,10 @@ put-point-spec =
     μ-loop
     start-requires
     loop-holds
-    offset-requires
-    nth-requires
+    wrapping-add-usize-requires
     coordinate-requires
-    put-number-requires
-    add-i
+    put-integer-requires
+    add-k
     loop-less
     loop-again
     same-length

@@ -7,13 +7,10 @@ use Rattle.random_jobs.proofs.table.put_entries.Statement.{statement}
 use Rattle.random_jobs.proofs.table.put_entries.Tie as tie
 
 abbrev Inv-loop : tie.InvT-loop
-Inv-loop seed points chosen out₀ n f₀ k₀ k-end out f k = length out ≡ length out₀
+Inv-loop seed points chosen out₀ k₀ k-end out k = length out ≡ length out₀
 
 abbrev μ-loop : tie.MeasureT-loop
-μ-loop seed points chosen out₀ n f₀ k₀ k-end out f k = k-end - k
-
-first-requires : tie.Need-first-requires Inv-loop μ-loop
-first-requires c κs = search needs
+μ-loop seed points chosen out₀ k₀ k-end out k = k-end - k
 
 how-many-requires : tie.Need-how-many-requires Inv-loop μ-loop
 how-many-requires c κs = search needs
@@ -21,17 +18,11 @@ how-many-requires c κs = search needs
 loop-holds : tie.Need-loop-holds Inv-loop μ-loop
 loop-holds c = search needs
 
-is-listed-requires : tie.Need-is-listed-requires Inv-loop μ-loop
-is-listed-requires c κs = search needs
-
 entry-requires : tie.Need-entry-requires Inv-loop μ-loop
 entry-requires c κs = search needs
 
-put-number-requires : tie.Need-put-number-requires Inv-loop μ-loop
-put-number-requires c κs = search needs
-
-after-requires : tie.Need-after-requires Inv-loop μ-loop
-after-requires c κs = search needs
+put-integer-requires : tie.Need-put-integer-requires Inv-loop μ-loop
+put-integer-requires c κs = search needs
 
 add-k : tie.Need-add-k Inv-loop μ-loop
 add-k c = search needs
@@ -54,13 +45,10 @@ put-entries-spec =
     (tie.spec
     Inv-loop
     μ-loop
-    first-requires
     how-many-requires
     loop-holds
-    is-listed-requires
     entry-requires
-    put-number-requires
-    after-requires
+    put-integer-requires
     add-k
     loop-less
     loop-again

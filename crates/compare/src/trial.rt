@@ -1,0 +1,198 @@
+// One job: the checker against its numbers, the search against the enumerator, the judge against the laws.
+use checker::check::check_job;
+use enumerator::checker::refusal;
+use enumerator::enumerate::MOST;
+use enumerator::enumerate::ROOM;
+use enumerator::enumerate::best_filling;
+use enumerator::enumerate::put_pool;
+use enumerator::enumerate::put_subset;
+use enumerator::rules::lowest_broken;
+use enumerator::rules::worst;
+use judge::judge::judge;
+use lines::tally::Counts;
+use search::search::search;
+use trials::buffer::is_written;
+use trials::buffer::put_pattern;
+use trials::lists::how_many_lists;
+use trials::lists::put_list;
+use trials::tally::LAWS;
+use trials::tally::REFUSED;
+use trials::tally::with_answer;
+use trials::tally::with_comparison;
+use trials::tally::with_filled;
+use trials::tally::with_skipped;
+
+// Compares the search of a job into the buffer: the number, the worst quality and the list, with every byte of the buffer.
+pub fn searched(
+    seed: u64,
+    points: &[i32],
+    triangles: &[u8],
+    kept: &[u8],
+    table: &[i32],
+    number: u32,
+    worst: u32,
+    list: &[u8],
+    answer: &mut [u8],
+    tally: Counts,
+) -> Counts {
+    put_pattern(answer);
+    let f = search(points, triangles, kept, table, answer);
+    let is_same = (f.number == number)
+        & (f.worst == worst)
+        & (f.count as usize == list.len() / 4)
+        & is_written(answer, list);
+    with_answer(tally, number, is_same, seed)
+}
+
+// Compares the judge on one list.
+fn judged(
+    seed: u64,
+    points: &[i32],
+    triangles: &[u8],
+    kept: &[u8],
+    table: &[i32],
+    list: &[u8],
+    number: u32,
+    law: u32,
+    worst: u32,
+    tally: Counts,
+) -> Counts {
+    let v = judge(points, triangles, kept, table, list);
+    let is_same = (v.number == number) & (v.law == law) & (v.worst == worst);
+    with_comparison(tally, is_same, seed, b"judge: job ")
+}
+
+// Compares the judge on one of the lists near the base, which is a filling or the chosen fours, or on a subset of the pool.
+fn with_list(
+    seed: u64,
+    points: &[i32],
+    triangles: &[u8],
+    kept: &[u8],
+    table: &[i32],
+    base: &[u8],
+    pool: &[u8],
+    way: usize,
+    tally: Counts,
+) -> Counts {
+    let mut room = [0u8; ROOM];
+    let list = put_list(seed, points.len() / 3, base, pool, way, &mut room);
+    let law = lowest_broken(points, triangles, kept, table, list);
+    let q = if law == 0 {
+        worst(points, table, list)
+    } else {
+        0
+    };
+    let t = tally.more(LAWS + law as usize);
+    judged(seed, points, triangles, kept, table, list, 0, law, q, t)
+}
+
+fn with_lists(
+    seed: u64,
+    points: &[i32],
+    triangles: &[u8],
+    kept: &[u8],
+    table: &[i32],
+    base: &[u8],
+    pool: &[u8],
+    tally: Counts,
+) -> Counts {
+    let mut t = tally;
+    for way in 0..how_many_lists(pool) {
+        t = with_list(seed, points, triangles, kept, table, base, pool, way, t);
+    }
+    t
+}
+
+// An accepted job, with the fours of it that keep law 2. Where it has no lawful filling the best list is the empty one.
+fn accepted(
+    seed: u64,
+    points: &[i32],
+    triangles: &[u8],
+    kept: &[u8],
+    table: &[i32],
+    chosen: &[u8],
+    pool: &[u8],
+    answer: &mut [u8],
+    tally: Counts,
+) -> Counts {
+    let best = best_filling(points, triangles, kept, table, pool);
+    let mut room = [0u8; ROOM];
+    let list = put_subset(pool, best.subset, &mut room);
+    let number = if best.lawful == 0 { 15 } else { 0 };
+    let t = searched(
+        seed,
+        points,
+        triangles,
+        kept,
+        table,
+        number,
+        best.worst,
+        list,
+        answer,
+        tally,
+    );
+    if best.lawful == 0 {
+        return with_lists(seed, points, triangles, kept, table, chosen, pool, t);
+    }
+    let all = with_filled(seed, points, triangles, kept, list, best, t);
+    with_lists(seed, points, triangles, kept, table, list, pool, all)
+}
+
+// Compares what the kernel says of one job with what the laws say.
+pub fn trial(
+    seed: u64,
+    points: &[i32],
+    triangles: &[u8],
+    kept: &[u8],
+    table: &[i32],
+    chosen: &[u8],
+    tally: Counts,
+) -> Counts {
+    let number = refusal(points, triangles, kept, table);
+    let is_same = check_job(points, triangles, kept, table) == number;
+    let t = with_comparison(tally, is_same, seed, b"checker: job ");
+    let mut answer = [0u8; 7280];
+    if number != 0 {
+        let s = searched(
+            seed,
+            points,
+            triangles,
+            kept,
+            table,
+            number,
+            0,
+            b"",
+            &mut answer,
+            t,
+        );
+        let all = s.more(REFUSED);
+        return judged(
+            seed,
+            points,
+            triangles,
+            kept,
+            table,
+            chosen,
+            number,
+            0,
+            0,
+            all,
+        );
+    }
+    let mut room = [0u8; ROOM];
+    let pool = put_pool(points, table, &mut room);
+    if pool.len() / 4 > MOST {
+        return with_skipped(t);
+    }
+    accepted(
+        seed,
+        points,
+        triangles,
+        kept,
+        table,
+        chosen,
+        pool,
+        &mut answer,
+        t,
+    )
+}
