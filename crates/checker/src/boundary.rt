@@ -28,7 +28,7 @@ fn is_tri_bad(triangles: &[u8], i: usize, n: usize) -> bool
     ((n <= a) | ((n <= b) | (n <= c))) | ((a == b) | ((b == c) | (a == c)))
 }
 
-// Number 6: a bad triangle.
+// Numbers 6 and 23: a bad triangle.
 pub(crate) fn any_tri_bad(triangles: &[u8], n: usize) -> bool
     ensures { λ r. ⌜ r ≡ any-tri-bad n (triangles-in (now (triangles .entry))) ⌝ }
 {

@@ -1,4 +1,4 @@
-// The checker: which of numbers 2 to 13 refuses a job, 0 for none. Each function's answer is an equation with a definition of specs/Check.antt.
+// The checker: which of numbers 2 to 13, 22 and 23 refuses a job, 0 for none. Each function's answer is an equation with a definition of specs/Check.antt.
 // Assumes nothing, and `check_job` asks nothing: any lengths, any bytes, any numbers.
 use crate::boundary::any_tri_bad;
 use crate::boundary::triangles_fit;
@@ -9,15 +9,18 @@ use crate::table::choose_4;
 use crate::unmeasured::solid_unmeasured;
 use geometry::range::any_far;
 ghost use mathlib.Core.Path.{_≡_};
+ghost use mathlib.Core.Bool.{false};
 ghost use Prim.Native.Nat.{suc, _/_, _≤_, _<_};
 ghost use lib.Dec.{eqb};
 ghost use lib.ListN.{length, getD, drop};
 ghost use lib.IntN.{pos};
+ghost use Rattle.geometry.specs.Range.{any-far};
 ghost use Rattle.geometry.specs.Space.{of, equal, points-in, point, same-place};
 ghost use Rattle.laws.specs.Laws.{choose};
 ghost use Rattle.laws.specs.Lists.{job-lists};
 ghost use Rattle.laws.specs.Check.{points-right, place-taken, two-alike, edge-bad, entry-bad, any-entry-bad, job-refusal};
-ghost use Rattle.laws.specs.inner.Listed.{kept-right, kept-in, edge-at, edge-wrong};
+ghost use Rattle.laws.specs.inner.Listed.{kept-right, inner-right, kept-in, edge-at, edge-wrong};
+ghost use Rattle.laws.specs.inner.Unmeasured.{table-refusal};
 
 // Whether number 2 lets the points pass: whole points, 4 to 16 of them.
 fn points_fit(points: &[i32]) -> bool
@@ -100,6 +103,13 @@ fn any_edge_bad(kept: &[u8], n: usize) -> bool
     false
 }
 
+// Whether number 22 lets the inner triangles pass: whole triangles, 560 at most (560 = C(16,3)).
+fn inner_fits(inner: &[u8]) -> bool
+    ensures { λ r. ⌜ r ≡ inner-right (now (inner .entry)) ⌝ }
+{
+    (inner.len() % 3 == 0) & (inner.len() / 3 <= 560)
+}
+
 // Whether number 11 lets the table pass: an entry for each four of n points.
 fn table_fits(table: &[i32], n: usize) -> bool
     requires { ⌜ n ≤ 16 ⌝ }
@@ -129,9 +139,26 @@ fn any_entry_bad(table: &[i32]) -> bool
     false
 }
 
-// The lowest number that refuses the job, 0 for none. A list's length is looked at before the list, so no input takes long.
-pub fn check_job(points: &[i32], triangles: &[u8], kept: &[u8], table: &[i32]) -> u32
-    ensures { λ r. ⌜ r ≡ job-refusal (job-lists (now (points .entry)) (now (triangles .entry)) (now (kept .entry)) (now (table .entry))) ⌝ }
+// Numbers 11 to 13: the table, of points that 2 and 3 let pass.
+fn check_table(points: &[i32], table: &[i32]) -> u32
+    requires { ⌜ (length (points-in (now points)) ≤ 16) × (any-far (now points) ≡ false) ⌝ }
+    ensures { λ r. ⌜ r ≡ table-refusal (now (points .entry)) (now (table .entry)) ⌝ }
+{
+    if !table_fits(table, points.len() / 3) {
+        return 11;
+    }
+    if any_entry_bad(table) {
+        return 12;
+    }
+    if solid_unmeasured(points, table) {
+        return 13;
+    }
+    0
+}
+
+// The number whose place comes first of those that refuse the job, 0 for none. A list's length is looked at before the list, so no input takes long.
+pub fn check_job(points: &[i32], triangles: &[u8], kept: &[u8], inner: &[u8], table: &[i32]) -> u32
+    ensures { λ r. ⌜ r ≡ job-refusal (job-lists (now (points .entry)) (now (triangles .entry)) (now (kept .entry)) (now (inner .entry)) (now (table .entry))) ⌝ }
 {
     if !points_fit(points) {
         return 2;
@@ -161,14 +188,11 @@ pub fn check_job(points: &[i32], triangles: &[u8], kept: &[u8], table: &[i32]) -
     if any_edge_bad(kept, n) {
         return 10;
     }
-    if !table_fits(table, n) {
-        return 11;
+    if !inner_fits(inner) {
+        return 22;
     }
-    if any_entry_bad(table) {
-        return 12;
+    if any_tri_bad(inner, n) {
+        return 23;
     }
-    if solid_unmeasured(points, table) {
-        return 13;
-    }
-    0
+    check_table(points, table)
 }

@@ -1,4 +1,4 @@
-// The checker of jobs: numbers 2 to 13.
+// The checker of jobs: numbers 2 to 13, 22 and 23.
 // Assumes nothing. The entry, `check::check_job`, takes any input.
 pub mod boundary;
 pub mod check;

@@ -1,4 +1,4 @@
--- What the judge answers for every input: 2 to 13, else the lowest law broken, else the worst quality. Assumes nothing: these are definitions.
+-- What the judge answers for every input: 2 to 13, 22 or 23, else the lowest law broken, else the worst quality. Assumes nothing: these are definitions.
 use mathlib.Core.Path.{_≡_}
 use mathlib.Core.Bool.{cond}
 use mathlib.Core.List.{List}

@@ -32,7 +32,7 @@ fn raise_faces(flags: &mut [u8; 4096], f: Four) -> bool
 }
 
 // The same for the whole list, from its last four to its first.
-fn raise_all_faces(points: &[i32], list: &[u8], flags: &mut [u8; 4096]) -> bool
+pub(crate) fn raise_all_faces(points: &[i32], list: &[u8], flags: &mut [u8; 4096]) -> bool
     requires { ⌜ Well-listed (now points) (now list) ⌝ }
     ensures { λ r. ⌜ (r ≡ all-new (all-faces (points-in (now (points .entry))) (fours-listed (now (list .entry)))) (now (flags .entry))) × (now (flags .exit) ≡ flag-all (all-faces (points-in (now (points .entry))) (fours-listed (now (list .entry)))) (now (flags .entry))) ⌝ }
 {

@@ -4,6 +4,7 @@ use crate::cover::keeps_corners;
 use crate::cover::keeps_edges;
 use crate::faces::keeps_faces;
 use crate::fours::keeps_order;
+use crate::inner::keeps_inner;
 use crate::interior::keeps_apart;
 use crate::interior::keeps_points_out;
 use crate::quality::keeps_quality;
@@ -27,11 +28,12 @@ pub(crate) fn lowest_broken(
     points: &[i32],
     triangles: &[u8],
     kept: &[u8],
+    inner: &[u8],
     table: &[i32],
     list: &[u8],
 ) -> u32
-    requires { ⌜ job-refusal (job-lists (now points) (now triangles) (now kept) (now table)) ≡ 0 ⌝ }
-    ensures { λ r. ⌜ r ≡ judged (job (job-lists (now (points .entry)) (now (triangles .entry)) (now (kept .entry)) (now (table .entry)))) (now (list .entry)) ⌝ }
+    requires { ⌜ job-refusal (job-lists (now points) (now triangles) (now kept) (now inner) (now table)) ≡ 0 ⌝ }
+    ensures { λ r. ⌜ r ≡ judged (job (job-lists (now (points .entry)) (now (triangles .entry)) (now (kept .entry)) (now (inner .entry)) (now (table .entry)))) (now (list .entry)) ⌝ }
 {
     let n = points.len() / 3;
     let mut law = 0;
@@ -51,15 +53,24 @@ pub(crate) fn lowest_broken(
         law = 6;
     } else if !keeps_edges(kept, list) {
         law = 7;
+    } else if !keeps_inner(points, inner, list) {
+        law = 8;
     }
     law
 }
 
 // THE JUDGE: the number that refuses the job, else the lowest law that the list breaks, else its worst quality.
-pub fn judge(points: &[i32], triangles: &[u8], kept: &[u8], table: &[i32], list: &[u8]) -> Verdict
-    ensures { λ r. ⌜ Judge-says (job-lists (now (points .entry)) (now (triangles .entry)) (now (kept .entry)) (now (table .entry))) (now (list .entry)) r ⌝ }
+pub fn judge(
+    points: &[i32],
+    triangles: &[u8],
+    kept: &[u8],
+    inner: &[u8],
+    table: &[i32],
+    list: &[u8],
+) -> Verdict
+    ensures { λ r. ⌜ Judge-says (job-lists (now (points .entry)) (now (triangles .entry)) (now (kept .entry)) (now (inner .entry)) (now (table .entry))) (now (list .entry)) r ⌝ }
 {
-    let number = check_job(points, triangles, kept, table);
+    let number = check_job(points, triangles, kept, inner, table);
     if number != 0 {
         return Verdict {
             number,
@@ -67,7 +78,7 @@ pub fn judge(points: &[i32], triangles: &[u8], kept: &[u8], table: &[i32], list:
             worst: 0,
         };
     }
-    let law = lowest_broken(points, triangles, kept, table, list);
+    let law = lowest_broken(points, triangles, kept, inner, table, list);
     if law != 0 {
         return Verdict {
             number: 0,

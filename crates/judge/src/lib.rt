@@ -4,6 +4,7 @@ pub mod cover;
 pub mod faces;
 pub mod flags;
 pub mod fours;
+pub mod inner;
 pub mod interior;
 pub mod judge;
 pub mod quality;

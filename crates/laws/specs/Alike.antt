@@ -1,4 +1,4 @@
--- What no answer shows (document 01, "A job"): the entry of a flat four, beyond 12, and the number at which a triangle begins.
+-- What no answer shows (document 01, "A job"; document 02): the entry of a flat four, beyond 12, the number at which a triangle begins, and the direction of an inner one.
 -- Assumes nothing: these are definitions. Proved in proofs/Alike.
 use mathlib.Core.Path.{_≡_}
 use mathlib.Core.Bool.{true, false}
@@ -10,6 +10,7 @@ use Rattle.geometry.specs.declared.tetrahedron.Four.{Four}
 use Rattle.laws.specs.Laws.{Tri, same-tri, entry, rising, broken, lawful, worst}
 use Rattle.laws.specs.Lists.{Lists}
 use Rattle.laws.specs.Check.{any-entry-bad, job, job-refusal}
+use Rattle.laws.specs.inner.Listed.{same-three}
 
 -- the same refusal, the same verdict on every list, and the same worst quality of every lawful one
 pub record Alike (l m : Lists) : Type 0 where
@@ -22,6 +23,7 @@ pub record Flat-entries-differ (l m : Lists) : Type 0 where
   pub points : m .points ≡ l .points
   pub triangles : m .triangles ≡ l .triangles
   pub kept : m .kept ≡ l .kept
+  pub inner : m .inner ≡ l .inner
   pub long : length (m .table) ≡ length (l .table)
   pub fit : any-entry-bad (l .table) ≡ false
   pub fit-too : any-entry-bad (m .table) ≡ false
@@ -39,9 +41,26 @@ pub data Turned-each : (one other : List Tri) → Type 0 where
 pub record Triangles-turned (l m : Lists) : Type 0 where
   pub points : m .points ≡ l .points
   pub kept : m .kept ≡ l .kept
+  pub inner : m .inner ≡ l .inner
   pub table : m .table ≡ l .table
   pub long : length (m .triangles) ≡ length (l .triangles)
   pub each : Turned-each (job l .triangles) (job m .triangles)
 
 unfoldable pub Turning-unseen : Type 0
 Turning-unseen = (l m : Lists) → Triangles-turned l m → Alike l m
+
+-- each inner triangle turned round in a circle, reversed, or left as it is
+pub data Either-way : (one other : List Tri) → Type 0 where
+  no-more : Either-way [] []
+  and-next : {s t : Tri} {ss ts : List Tri} → same-three s t ≡ true → Either-way ss ts → Either-way (s ∷ ss) (t ∷ ts)
+
+pub record Inner-either-way (l m : Lists) : Type 0 where
+  pub points : m .points ≡ l .points
+  pub triangles : m .triangles ≡ l .triangles
+  pub kept : m .kept ≡ l .kept
+  pub table : m .table ≡ l .table
+  pub long : length (m .inner) ≡ length (l .inner)
+  pub each : Either-way (job l .inner) (job m .inner)
+
+unfoldable pub Direction-unseen : Type 0
+Direction-unseen = (l m : Lists) → Inner-either-way l m → Alike l m

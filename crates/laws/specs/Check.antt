@@ -1,4 +1,4 @@
--- What the checker refuses: numbers 2 to 13. Assumes nothing: these are definitions.
+-- What the checker refuses: numbers 2 to 13, 22 and 23. Assumes nothing: these are definitions.
 use mathlib.Core.Bool.{Bool, true, false, _&&_, _||_, not, cond}
 use mathlib.Core.List.{List, [], _∷_}
 use Prim.Native.Nat.{ℕ, zero, suc, _+_, _-_, _/_, _%_}
@@ -95,6 +95,7 @@ job l =
       points = points-in (l .points);
       triangles = tris-in (length (l .triangles) / 3) (l .triangles);
       kept = edges-in (length (l .kept) / 2) (l .kept);
+      inner = tris-in (length (l .inner) / 3) (l .inner);
       table = l .table;
     }
 
@@ -111,7 +112,7 @@ unfoldable pub first-refusal : List Refusal → ℕ
 first-refusal [] = 0
 first-refusal (r ∷ rs) = cond (r .applies) (r .number) (first-refusal rs)
 
--- numbers 2 to 13, each with its line of document 01
+-- numbers 2 to 13 with 22 and 23 between 10 and 11, each with its line of documents 01 and 02
 unfoldable pub refusals : Lists → List Refusal
 refusals l =
     let j = job l in
@@ -126,6 +127,8 @@ refusals l =
     refusal 8 (unmatched edges edges) ∷
     refusal 9 (not (eqb (length (l .kept) % 2) 0 && leb (length (l .kept) / 2) 120)) ∷
     refusal 10 (edge-bad n (j .kept)) ∷
+    refusal 22 (not (eqb (length (l .inner) % 3) 0 && leb (length (l .inner) / 3) 560)) ∷
+    refusal 23 (any-tri-bad n (j .inner)) ∷
     refusal 11 (not (eqb (length (l .table)) (choose n 4))) ∷
     refusal 12 (any-entry-bad (l .table)) ∷
     refusal 13 (solid-unmeasured j) ∷

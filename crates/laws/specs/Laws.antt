@@ -1,4 +1,4 @@
--- Jobs and the seven laws of a filling. Assumes nothing: these are definitions.
+-- Jobs and the eight laws of a filling. Assumes nothing: these are definitions.
 use mathlib.Core.Path.{_≡_}
 use mathlib.Core.Bool.{Bool, true, false, _&&_, _||_, not, cond}
 use mathlib.Core.List.{List, [], _∷_, _++_}
@@ -21,11 +21,12 @@ pub record Edge : Type 0 where
   pub a : ℕ
   pub b : ℕ
 
--- a problem instance: points, outward triangles (the boundary triangulation), kept edges (constrained edges), and a quality for every four
+-- a problem instance: points, outward triangles (the boundary triangulation), kept edges (constrained edges), inner triangles (constrained facets), and a quality for every four
 pub record Job : Type 0 where
   pub points : List V3
   pub triangles : List Tri
   pub kept : List Edge
+  pub inner : List Tri
   pub table : List ℤ
 
 -- fours with increasing numbers in lexicographic order
@@ -156,13 +157,21 @@ all-kept (e ∷ es) fs = holds-edge e fs && all-kept es fs
 unfoldable pub law-7 : Job → List Four → Bool
 law-7 j fs = all-kept (j .kept) fs
 
+-- LAW 8: every inner triangle (constrained facet) is, in one direction or the other, a face of some tetrahedron
+unfoldable pub all-faced : (inner all : List Tri) → Bool
+all-faced [] all = true
+all-faced (t ∷ ts) all = (has t all || has (reversed t) all) && all-faced ts all
+
+unfoldable pub law-8 : Job → List Four → Bool
+law-8 j fs = all-faced (j .inner) (all-faces (j .points) fs)
+
 -- the lowest law broken, 0 for none
 unfoldable pub broken : Job → List Four → ℕ
 broken j fs =
     cond (not (law-1 (length (j .points)) fs)) 1
     (cond (not (law-2 j fs)) 2
     (cond (not (law-3 j fs)) 3
-    (cond (not (law-4 j fs)) 4 (cond (not (law-5 j fs)) 5 (cond (not (law-6 j fs)) 6 (cond (law-7 j fs) 0 7))))))
+    (cond (not (law-4 j fs)) 4 (cond (not (law-5 j fs)) 5 (cond (not (law-6 j fs)) 6 (cond (not (law-7 j fs)) 7 (cond (law-8 j fs) 0 8)))))))
 
 -- a lawful filling: a feasible solution, a conforming triangulation of the cavity
 unfoldable pub lawful : Job → List Four → Bool

@@ -7,17 +7,18 @@ pub record Lists : Type 0 where
   pub points : List ℤ
   pub triangles : List ℕ
   pub kept : List ℕ
+  pub inner : List ℕ
   pub table : List ℤ
 
-abbrev pub job-lists : (points : List ℤ) → (triangles kept : List ℕ) → (table : List ℤ) → Lists
-job-lists ps ts es qs = record { points = ps; triangles = ts; kept = es; table = qs }
+abbrev pub job-lists : (points : List ℤ) → (triangles kept inner : List ℕ) → (table : List ℤ) → Lists
+job-lists ps ts es ks qs = record { points = ps; triangles = ts; kept = es; inner = ks; table = qs }
 
 -- what a test that looks at no other list is given
 abbrev pub points-only : (points : List ℤ) → Lists
-points-only ps = record { points = ps; triangles = []; kept = []; table = [] }
+points-only ps = record { points = ps; triangles = []; kept = []; inner = []; table = [] }
 
 abbrev pub with-triangles : (points : List ℤ) → (triangles : List ℕ) → Lists
-with-triangles ps ts = record { points = ps; triangles = ts; kept = []; table = [] }
+with-triangles ps ts = record { points = ps; triangles = ts; kept = []; inner = []; table = [] }
 
 abbrev pub with-table : (points table : List ℤ) → Lists
-with-table ps qs = record { points = ps; triangles = []; kept = []; table = qs }
+with-table ps qs = record { points = ps; triangles = []; kept = []; inner = []; table = qs }

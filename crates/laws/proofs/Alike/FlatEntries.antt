@@ -11,7 +11,7 @@ use lib.ListN.{length}
 use lib.IntN.{ℤ}
 use Rattle.geometry.specs.Space.{V3, four, solid}
 use Rattle.geometry.specs.declared.tetrahedron.Four.{Four}
-use Rattle.laws.specs.Laws.{Job, rising, entry, quality, law-1, law-2, law-4, law-6, law-7, broken, lawful, worst, worst-from}
+use Rattle.laws.specs.Laws.{Job, rising, entry, quality, law-1, law-2, law-4, law-6, law-7, law-8, broken, lawful, worst, worst-from}
 use Rattle.laws.specs.Lists.{Lists}
 use Rattle.laws.specs.Check.{over, unmeasured, solid-unmeasured, any-entry-bad, job, refusal, first-refusal, refusals, job-refusal}
 use Rattle.laws.specs.Alike.{Alike, Flat-entries-differ, Flat-unused}
@@ -74,7 +74,7 @@ unmeasured-agrees j k a =
 
 -- ---- the job with another table
 abbrev with-entries : Lists → List ℤ → Lists
-with-entries l qs = record { points = l .points; triangles = l .triangles; kept = l .kept; table = qs }
+with-entries l qs = record { points = l .points; triangles = l .triangles; kept = l .kept; inner = l .inner; table = qs }
 
 module _ (l : Lists) (qs : List ℤ) (d : Flat-entries-differ l (with-entries l qs)) where
   agree : Agree (job l) (job (with-entries l qs))
@@ -95,7 +95,7 @@ module _ (l : Lists) (qs : List ℤ) (d : Flat-entries-differ l (with-entries l 
       rest u e b c = rw (e, b, c, u) refl
 
   verdict-agrees : (fs : List Four) → broken (job (with-entries l qs)) fs ≡ broken (job l) fs
-  unfolding broken law-4 law-6 law-7 job
+  unfolding broken law-4 law-6 law-7 law-8 job
   verdict-agrees fs = go (true-or-false (law-1 (length (job l .points)) fs))
     where
       go : (law-1 (length (job l .points)) fs ≡ true) ⊎ (law-1 (length (job l .points)) fs ≡ false) → broken (job (with-entries l qs)) fs ≡ broken (job l) fs
@@ -115,12 +115,12 @@ module _ (l : Lists) (qs : List ℤ) (d : Flat-entries-differ l (with-entries l 
   flat-alike = record { refusal = refusal-agrees; verdict = verdict-agrees; worth = worth-agrees }
 
 lists-equal :
-    {ps ps′ : List ℤ} {ts ts′ es es′ : List ℕ} (qs : List ℤ) → ps ≡ ps′ → ts ≡ ts′ → es ≡ es′ →
-    _≡_ {A = Lists} (record { points = ps; triangles = ts; kept = es; table = qs }) (record { points = ps′; triangles = ts′; kept = es′; table = qs })
-lists-equal qs p t e = cc
+    {ps ps′ : List ℤ} {ts ts′ es es′ ks ks′ : List ℕ} (qs : List ℤ) → ps ≡ ps′ → ts ≡ ts′ → es ≡ es′ → ks ≡ ks′ →
+    _≡_ {A = Lists} (record { points = ps; triangles = ts; kept = es; inner = ks; table = qs }) (record { points = ps′; triangles = ts′; kept = es′; inner = ks′; table = qs })
+lists-equal qs p t e k = cc
 
 pub flat-unused : Flat-unused
 unfolding Flat-unused
 flat-unused l m d =
-    let e : m ≡ with-entries l (m .table) = lists-equal (m .table) (d .points) (d .triangles) (d .kept) in
+    let e : m ≡ with-entries l (m .table) = lists-equal (m .table) (d .points) (d .triangles) (d .kept) (d .inner) in
     subst (λ (x : Lists). Alike l x) (sym e) (flat-alike l (m .table) (subst (λ (x : Lists). Flat-entries-differ l x) e d))

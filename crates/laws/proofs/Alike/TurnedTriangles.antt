@@ -11,7 +11,7 @@ use lib.Dec.{leb, eqb}
 use lib.ListN.{length}
 use lib.IntN.{ℤ}
 use Rattle.geometry.specs.declared.tetrahedron.Four.{Four}
-use Rattle.laws.specs.Laws.{Tri, Edge, same-tri, reversed, has, all-in, matched, all-faces, law-4, law-6, law-7, broken, worst}
+use Rattle.laws.specs.Laws.{Tri, Edge, same-tri, reversed, has, all-in, matched, all-faces, law-4, law-6, law-7, law-8, broken, worst}
 use Rattle.laws.specs.Lists.{Lists}
 use Rattle.laws.specs.Check.{tri-bad, any-tri-bad, tri-taken, tris-alike, directed, how-often, unmatched, solid-unmeasured, job, refusal, first-refusal, refusals, job-refusal}
 use Rattle.laws.specs.Alike.{Alike, Turned-each, none-left, one-more, Triangles-turned, Turning-unseen}
@@ -21,7 +21,7 @@ use Rattle.laws.proofs.Checker.FourLoops.{unmeasured-bare}
 use Rattle.laws.proofs.Judge.LawChain.{sees-2, sees-3, sees-5, sees-worst}
 
 -- ---- a value that is the same from the next corner is the same from every corner
-turned-value : {A : Type 0} (f : Tri → A) → ((t : Tri) → f (turn t) ≡ f t) → {s t : Tri} → Same s t → f s ≡ f t
+pub turned-value : {A : Type 0} (f : Tri → A) → ((t : Tri) → f (turn t) ≡ f t) → {s t : Tri} → Same s t → f s ≡ f t
 turned-value f h (turn-0 e) = ap f e
 turned-value f h {s} {t} (turn-1 e) = ap f e ∙ h t
 turned-value f h {s} {t} (turn-2 e) = ap f e ∙ h (turn t) ∙ h t
@@ -34,7 +34,7 @@ or-turns false true z = refl
 or-turns false false true = refl
 or-turns false false false = refl
 
-eqb-back : (x y : ℕ) → eqb x y ≡ eqb y x
+pub eqb-back : (x y : ℕ) → eqb x y ≡ eqb y x
 eqb-back x y = go (ℕ-discrete x y)
   where
     go : Dec (x ≡ y) → eqb x y ≡ eqb y x
@@ -42,7 +42,7 @@ eqb-back x y = go (ℕ-discrete x y)
     go (no n) = ne-eqb x y n ∙ sym (ne-eqb y x (λ e. n (sym e)))
 
 -- ---- number 6
-bad-turns : (n : ℕ) (t : Tri) → tri-bad n (turn t) ≡ tri-bad n t
+pub bad-turns : (n : ℕ) (t : Tri) → tri-bad n (turn t) ≡ tri-bad n t
 unfolding tri-bad
 bad-turns n t =
     let p = or-turns (leb n (t .a)) (leb n (t .b)) (leb n (t .c)) in
@@ -174,7 +174,7 @@ matched-turned (t ∷ rest) all {ss} {ts} r =
 
 -- ---- the job with other triangles
 abbrev with-triples : Lists → List ℕ → Lists
-with-triples l ts = record { points = l .points; triangles = ts; kept = l .kept; table = l .table }
+with-triples l ts = record { points = l .points; triangles = ts; kept = l .kept; inner = l .inner; table = l .table }
 
 module _ (l : Lists) (ts : List ℕ) (d : Triangles-turned l (with-triples l ts)) where
   refusal-turned : job-refusal (with-triples l ts) ≡ job-refusal l
@@ -203,7 +203,7 @@ module _ (l : Lists) (ts : List ℕ) (d : Triangles-turned l (with-triples l ts)
       go p q = rw (p, q) refl
 
   verdict-turned : (fs : List Four) → broken (job (with-triples l ts)) fs ≡ broken (job l) fs
-  unfolding broken law-6 law-7 job
+  unfolding broken law-6 law-7 law-8 job
   verdict-turned fs =
       let two = sees-2 (with-triples l ts) fs ∙ sym (sees-2 l fs) in
       let three = sees-3 (with-triples l ts) fs ∙ sym (sees-3 l fs) in
@@ -218,12 +218,12 @@ module _ (l : Lists) (ts : List ℕ) (d : Triangles-turned l (with-triples l ts)
   turned-alike = record { refusal = refusal-turned; verdict = verdict-turned; worth = λ fs h. worth-turned fs }
 
 lists-equal :
-    {ps ps′ : List ℤ} (ts : List ℕ) {es es′ : List ℕ} {qs qs′ : List ℤ} → ps ≡ ps′ → es ≡ es′ → qs ≡ qs′ →
-    _≡_ {A = Lists} (record { points = ps; triangles = ts; kept = es; table = qs }) (record { points = ps′; triangles = ts; kept = es′; table = qs′ })
-lists-equal ts p e q = cc
+    {ps ps′ : List ℤ} (ts : List ℕ) {es es′ ks ks′ : List ℕ} {qs qs′ : List ℤ} → ps ≡ ps′ → es ≡ es′ → ks ≡ ks′ → qs ≡ qs′ →
+    _≡_ {A = Lists} (record { points = ps; triangles = ts; kept = es; inner = ks; table = qs }) (record { points = ps′; triangles = ts; kept = es′; inner = ks′; table = qs′ })
+lists-equal ts p e k q = cc
 
 pub turning-unseen : Turning-unseen
 unfolding Turning-unseen
 turning-unseen l m d =
-    let e : m ≡ with-triples l (m .triangles) = lists-equal (m .triangles) (d .points) (d .kept) (d .table) in
+    let e : m ≡ with-triples l (m .triangles) = lists-equal (m .triangles) (d .points) (d .kept) (d .inner) (d .table) in
     subst (λ (x : Lists). Alike l x) (sym e) (turned-alike l (m .triangles) (subst (λ (x : Lists). Triangles-turned l x) e d))

@@ -30,6 +30,10 @@ module _ (l : Lists) (h : job-refusal l ≡ 0) where
   unfolding job
   accepted-triangles = accepted l h .tris-good
 
+  pub accepted-inner : any-tri-bad (length (points-in (l .points))) (triangles-in (l .inner)) ≡ false
+  unfolding job
+  accepted-inner = accepted l h .inner-good
+
   pub listed-in-order : (ls : List ℕ) {r : Bool} → r ≡ law-1 (length (l .points) / 3) (fours-listed ls) → not r ≡ false → Well-listed (l .points) ls
   listed-in-order ls {r} e n =
       let t = accepted-table in

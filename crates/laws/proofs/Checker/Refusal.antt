@@ -49,9 +49,9 @@ none-bad-from n bs e (suc i) h =
     let r = none-bad-from n bs e i (omega arith) in
     let p = neither (tri-bad n (tri-at bs i)) (any-tri-bad n (tris-from bs (i + 1))) (sym (s .is) ∙ r) in rw (sym (add-one i)) (p .1)
 
-tri-within : (n a b c : ℕ) → n ≤ 16 → tri-bad n (tri a b c) ≡ false → Within 16 (tri a b c)
+tri-present : (n a b c : ℕ) → tri-bad n (tri a b c) ≡ false → Within n (tri a b c)
 unfolding tri-bad tri
-tri-within n a b c h e =
+tri-present n a b c e =
     let p = neither (leb n a || (leb n b || leb n c)) (eqb a b || (eqb b c || eqb a c)) e .0 in
     let q = neither (leb n a) (leb n b || leb n c) p in
     let r = neither (leb n b) (leb n c) (q .1) in
@@ -59,8 +59,12 @@ tri-within n a b c h e =
     let y = leb-false n b (r .0) in
     let z = leb-false n c (r .1) in record { a = omega arith; b = omega arith; c = omega arith }
 
-pub all-within : (n : ℕ) (bs : List ℕ) → n ≤ 16 → any-tri-bad n (triangles-in bs) ≡ false → All-within 16 bs
-all-within n bs h e i l =
+pub all-present : (n : ℕ) (bs : List ℕ) → any-tri-bad n (triangles-in bs) ≡ false → All-within n bs
+all-present n bs e i l =
     let s = bad-step bs i l n in
     let p = neither (tri-bad n (tri-at bs i)) (any-tri-bad n (tris-from bs (i + 1))) (sym (s .is) ∙ none-bad-from n bs e i (omega arith)) in
-    tri-within n _ _ _ h (p .0)
+    tri-present n _ _ _ (p .0)
+
+pub all-within : (n : ℕ) (bs : List ℕ) → n ≤ 16 → any-tri-bad n (triangles-in bs) ≡ false → All-within 16 bs
+all-within n bs h e i l =
+    let w = all-present n bs e i l in record { a = omega (arith, w .a); b = omega (arith, w .b); c = omega (arith, w .c) }

@@ -9,7 +9,7 @@ use lib.Dec.{leb, eqb}
 use lib.ListN.{length}
 use Rattle.geometry.specs.declared.tetrahedron.Four.{Four}
 use Rattle.geometry.specs.Range.{any-far}
-use Rattle.laws.specs.Laws.{Job, law-1, law-2, law-3, law-4, law-5, law-6, law-7, broken, lawful, choose}
+use Rattle.laws.specs.Laws.{Job, law-1, law-2, law-3, law-4, law-5, law-6, law-7, law-8, broken, lawful, choose}
 use Rattle.laws.specs.Lists.{Lists}
 use Rattle.laws.specs.Check.{points-right, job, refusal, first-refusal, refusals, job-refusal, two-alike, any-tri-bad, tris-alike, directed, unmatched, edge-bad, any-entry-bad, solid-unmeasured}
 
@@ -27,8 +27,9 @@ pub record Keeps (j : Job) (fs : List Four) : Type 0 where
   pub l5 : law-5 j fs ≡ true
   pub l6 : law-6 j fs ≡ true
   pub l7 : law-7 j fs ≡ true
+  pub l8 : law-8 j fs ≡ true
 
-last-law-kept : (b : Bool) → _≡_ {A = ℕ} (cond b 0 7) 0 → b ≡ true
+last-law-kept : (b : Bool) → _≡_ {A = ℕ} (cond b 0 8) 0 → b ≡ true
 last-law-kept true h = refl
 last-law-kept false h = absurd (omega arith)
 
@@ -41,6 +42,7 @@ keeps j fs h =
     let p4 = test-passed (not (law-4 j fs)) 3 (p3 .1) in
     let p5 = test-passed (not (law-5 j fs)) 4 (p4 .1) in
     let p6 = test-passed (not (law-6 j fs)) 5 (p5 .1) in
+    let p7 = test-passed (not (law-7 j fs)) 6 (p6 .1) in
     record {
       l1 = not-false (law-1 (length (j .points)) fs) (p1 .0);
       l2 = not-false (law-2 j fs) (p2 .0);
@@ -48,15 +50,16 @@ keeps j fs h =
       l4 = not-false (law-4 j fs) (p4 .0);
       l5 = not-false (law-5 j fs) (p5 .0);
       l6 = not-false (law-6 j fs) (p6 .0);
-      l7 = last-law-kept (law-7 j fs) (p6 .1);
+      l7 = not-false (law-7 j fs) (p7 .0);
+      l8 = last-law-kept (law-8 j fs) (p7 .1);
     }
 
 -- the other way round: a filling that keeps each law is lawful
 pub lawful-of : {j : Job} {fs : List Four} → Keeps j fs → lawful j fs ≡ true
 unfolding lawful broken
-lawful-of k = rw (k .l1, k .l2, k .l3, k .l4, k .l5, k .l6, k .l7)
+lawful-of k = rw (k .l1, k .l2, k .l3, k .l4, k .l5, k .l6, k .l7, k .l8)
 
--- a job that is not refused: a field for each of the numbers 2 to 13, in their order
+-- a job that is not refused: a field for each of the numbers 2 to 13, 22 and 23, in their order
 pub record Accepted (l : Lists) : Type 0 where
   pub shape : points-right 16 (l .points) ≡ true
   pub near : any-far (l .points) ≡ false
@@ -67,6 +70,8 @@ pub record Accepted (l : Lists) : Type 0 where
   pub edges-even : unmatched (directed (job l .triangles)) (directed (job l .triangles)) ≡ false
   pub kept-shape : (eqb (length (l .kept) % 2) 0 && leb (length (l .kept) / 2) 120) ≡ true
   pub kept-good : edge-bad (length (job l .points)) (job l .kept) ≡ false
+  pub inner-shape : (eqb (length (l .inner) % 3) 0 && leb (length (l .inner) / 3) 560) ≡ true
+  pub inner-good : any-tri-bad (length (job l .points)) (job l .inner) ≡ false
   pub table-shape : eqb (length (l .table)) (choose (length (job l .points)) 4) ≡ true
   pub entries : any-entry-bad (l .table) ≡ false
   pub measured : solid-unmeasured (job l) ≡ false
@@ -85,7 +90,9 @@ accepted l h =
     let p8 = test-passed (unmatched (directed (j .triangles)) (directed (j .triangles))) 7 (p7 .1) in
     let p9 = test-passed (not (eqb (length (l .kept) % 2) 0 && leb (length (l .kept) / 2) 120)) 8 (p8 .1) in
     let p10 = test-passed (edge-bad n (j .kept)) 9 (p9 .1) in
-    let p11 = test-passed (not (eqb (length (l .table)) (choose n 4))) 10 (p10 .1) in
+    let p22 = test-passed (not (eqb (length (l .inner) % 3) 0 && leb (length (l .inner) / 3) 560)) 21 (p10 .1) in
+    let p23 = test-passed (any-tri-bad n (j .inner)) 22 (p22 .1) in
+    let p11 = test-passed (not (eqb (length (l .table)) (choose n 4))) 10 (p23 .1) in
     let p12 = test-passed (any-entry-bad (l .table)) 11 (p11 .1) in
     let p13 = test-passed (solid-unmeasured j) 12 (p12 .1) in
     record {
@@ -98,6 +105,8 @@ accepted l h =
       edges-even = p8 .0;
       kept-shape = not-false (eqb (length (l .kept) % 2) 0 && leb (length (l .kept) / 2) 120) (p9 .0);
       kept-good = p10 .0;
+      inner-shape = not-false (eqb (length (l .inner) % 3) 0 && leb (length (l .inner) / 3) 560) (p22 .0);
+      inner-good = p23 .0;
       table-shape = not-false (eqb (length (l .table)) (choose n 4)) (p11 .0);
       entries = p12 .0;
       measured = p13 .0;
@@ -107,4 +116,4 @@ accepted l h =
 pub accepted-of : {l : Lists} → Accepted l → job-refusal l ≡ 0
 unfolding job-refusal refusals refusal first-refusal
 accepted-of a =
-    rw (a .shape, a .near, a .places, a .tri-shape, a .tris-good, a .tris-unlike, a .edges-even, a .kept-shape, a .kept-good, a .table-shape, a .entries, a .measured)
+    rw (a .shape, a .near, a .places, a .tri-shape, a .tris-good, a .tris-unlike, a .edges-even, a .kept-shape, a .kept-good, a .inner-shape, a .inner-good, a .table-shape, a .entries, a .measured)

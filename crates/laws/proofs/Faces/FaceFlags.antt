@@ -1,4 +1,4 @@
--- Flags raised for a list of triangles say which triangles it has, so law 4 can be read off them. Assumes nothing.
+-- Flags raised for a list of triangles say which triangles it has, so laws 4 and 8 can be read off them. Assumes nothing.
 use mathlib.Core.Path.{_≡_, refl, sym, ap, _∙_}
 use mathlib.Core.Bool.{Bool, true, false, _&&_, _||_, not}
 use mathlib.Core.Logic.{_⊎_, inl, inr}
@@ -13,13 +13,13 @@ use lib.IntN.{ℤ}
 use lib.Seq.{getD-set-same, getD-set-other}
 use Rattle.geometry.specs.Space.{points-in}
 use Rattle.geometry.specs.declared.tetrahedron.Four.{Four}
-use Rattle.laws.specs.Laws.{Job, Tri, same-tri, reversed, has, once, all-in, matched, all-faces, law-4}
+use Rattle.laws.specs.Laws.{Job, Tri, same-tri, reversed, has, once, all-in, matched, all-faces, law-4, all-faced}
 use Rattle.laws.specs.Lists.{with-triangles}
 use Rattle.laws.specs.Check.{job, any-tri-bad}
 use Rattle.laws.specs.inner.Listed.{triangles-in}
 use Rattle.laws.specs.inner.FaceCodes.{Proper, face-code}
 use Rattle.laws.specs.inner.ListedFours.{fours-listed, Well-listed}
-use Rattle.laws.specs.inner.FaceFlags.{flagged, flag, flag-all, all-new, all-flagged, closed, all-closed}
+use Rattle.laws.specs.inner.FaceFlags.{flagged, flag, flag-all, all-new, all-flagged, flagged-either, all-flagged-either, closed, all-closed}
 use Rattle.laws.proofs.Basics.Lists.{Each, none, more}
 use Rattle.laws.proofs.Basics.Tests.{true-or-false}
 use Rattle.laws.proofs.Faces.Triangles.{same-tri-of, same-tri-true}
@@ -130,3 +130,19 @@ module _ (cs : List ℤ) (ts ls : List ℕ) (w : Well-listed cs ls) (b : any-tri
         let q : all-flagged T (flag-all all no-flags) ≡ true = ap (all-flagged T) (sym (e .1)) ∙ sym d ∙ not-false s k in
         let x : t ≡ all-closed all (flag-all all no-flags) (flag-all T no-flags) = c ∙ ap (λ (o : List ℕ). all-closed all o bnd) (e .1) ∙ ap (all-closed all (flag-all all no-flags)) m in
         x ∙ sym (sym by-flags ∙ rw (p, q) refl)
+
+-- ---- law 8
+pub either-faced : {K all : List Tri} {own : List ℕ} → Flags all own → Each Proper K → all-flagged-either K own ≡ all-faced K all
+unfolding all-flagged-either flagged-either all-faced
+either-faced f none = refl
+either-faced f (more {x = t} p e) = rw (f .says t p, f .says (reversed t) (reversed-proper p), either-faced f e) refl
+
+-- of a list that keeps law 1, with inner triangles that 23 does not refuse, by the answers of the functions
+pub either-decides :
+    (cs : List ℤ) (ks ls : List ℕ) → Well-listed cs ls → any-tri-bad (length (points-in cs)) (triangles-in ks) ≡ false → {own : List ℕ} {r : Bool} →
+    own ≡ flag-all (all-faces (points-in cs) (fours-listed ls)) no-flags → r ≡ all-flagged-either (triangles-in ks) own →
+    r ≡ all-faced (triangles-in ks) (all-faces (points-in cs) (fours-listed ls))
+either-decides cs ks ls w b e h =
+    let n = length (points-in cs) in
+    let q = all-faces-proper n (points-in cs) (w .few) (law-1-well-formed n (fours-listed ls) (w .order)) in
+    h ∙ ap (all-flagged-either (triangles-in ks)) e ∙ either-faced (flags-of q) (boundary-proper n (triangles-in ks) (w .few) b)

@@ -1,17 +1,17 @@
 -- Flags over a list: of the faces from the last four to the first, of the boundary, and the tests that read them. Assumes nothing.
 use mathlib.Core.Path.{_≡_, refl, sym, ap, _∙_}
-use mathlib.Core.Bool.{and-assoc, Bool, true, _&&_, not}
+use mathlib.Core.Bool.{and-assoc, Bool, true, _&&_, _||_, not}
 use mathlib.Core.List.{List, [], _∷_, _++_}
 use Prim.Native.Nat.{ℕ, _+_, _*_, _-_, _/_, _≤_, _<_}
 use native.Mathlib.Omega.{arith}
 use lib.ListN.{length, getD}
 use Rattle.geometry.specs.Space.{V3, turned}
 use Rattle.geometry.specs.declared.tetrahedron.Four.{Four}
-use Rattle.laws.specs.Laws.{Tri, tri, faces, all-faces}
+use Rattle.laws.specs.Laws.{Tri, tri, reversed, faces, all-faces}
 use Rattle.laws.specs.inner.Listed.{triangles-in, tri-at, tris-from}
 use Rattle.laws.specs.inner.ListedFours.{fours-listed, four-at, fours-from}
-use Rattle.laws.specs.inner.FaceFlags.{flagged, flag, flag-all, all-new, all-flagged, closed, all-closed}
-use Rattle.laws.proofs.Checker.Rest.{tris-start, tris-more, tris-done}
+use Rattle.laws.specs.inner.FaceFlags.{flagged, flag, flag-all, all-new, all-flagged, flagged-either, all-flagged-either, closed, all-closed}
+use Rattle.laws.proofs.Checker.Rest.{tris-start, tris-more, tris-done, Numbered}
 use Rattle.laws.proofs.Basics.Passes.{Test}
 use Rattle.laws.proofs.Judge.FourList.{fours-start, fours-more, fours-done}
 
@@ -114,3 +114,20 @@ bound-more ts i fl {k} z h d e p q r = let x : i - 1 + 1 ≡ i = omega arith in 
 
 pub bound-all : (ts : List ℕ) (i : ℕ) (fl : List ℕ) {k : List ℕ} → i ≡ 0 → k ≡ flag-all (tris-from ts i) fl → k ≡ flag-all (triangles-in ts) fl
 bound-all ts i fl z d = let x = tris-start ts in cc
+
+-- ---- inner triangles
+pub either-by-numbers :
+    (ks fl : List ℕ) (i : ℕ) {a b c : ℕ} {p q : Bool} → Numbered ks i a b c → p ≡ flagged fl (tri a b c) → q ≡ flagged fl (tri a c b) →
+    (p || q) ≡ flagged-either fl (tri-at ks i)
+unfolding flagged-either reversed tri
+either-by-numbers ks fl i m u v = rw (u, v, m .a-is, m .b-is, m .c-is) refl
+
+pub either-test :
+    (ks fl : List ℕ) (i : ℕ) → i < length ks / 3 →
+    Test (all-flagged-either (tris-from ks i) fl) (flagged-either fl (tri-at ks i)) (all-flagged-either (tris-from ks (i + 1)) fl)
+unfolding all-flagged-either
+either-test ks fl i h = record { is = rw (tris-more ks i h) refl }
+
+pub either-end : (ks fl : List ℕ) (i : ℕ) → length ks / 3 ≤ i → all-flagged-either (tris-from ks i) fl ≡ true
+unfolding all-flagged-either
+either-end ks fl i h = rw (tris-done ks i h) refl

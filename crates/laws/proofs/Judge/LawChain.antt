@@ -4,11 +4,12 @@ use mathlib.Core.Bool.{Bool, true, false, not, cond}
 use mathlib.Core.List.{List, [], _∷_}
 use Prim.Native.Nat.{ℕ, _/_}
 use lib.ListN.{length}
+use Rattle.geometry.specs.Space.{points-in}
 use Rattle.geometry.specs.declared.tetrahedron.Four.{Four}
-use Rattle.laws.specs.Laws.{Job, entry, law-1, law-2, law-3, law-4, law-5, law-6, law-7, corners-from, all-kept, broken, worst-from}
+use Rattle.laws.specs.Laws.{Job, entry, law-1, law-2, law-3, law-4, law-5, law-6, law-7, law-8, corners-from, all-kept, all-faces, all-faced, broken, worst-from}
 use Rattle.laws.specs.Lists.{Lists, points-only, with-triangles, with-table}
 use Rattle.laws.specs.Check.{job}
-use Rattle.laws.specs.inner.Listed.{kept-in}
+use Rattle.laws.specs.inner.Listed.{kept-in, triangles-in}
 use Rattle.laws.proofs.Checker.Points.{points-count}
 use Rattle.laws.proofs.Checker.Chain.{Chain}
 
@@ -36,8 +37,11 @@ module _ (l : Lists) where
 
 -- ---- what is left of the chain after each law
 module _ (j : Job) (fs : List Four) where
+  unfoldable pub after-7 : ℕ
+  after-7 = cond (law-8 j fs) 0 8
+
   unfoldable pub after-6 : ℕ
-  after-6 = cond (law-7 j fs) 0 7
+  after-6 = cond (not (law-7 j fs)) 7 after-7
 
   unfoldable pub after-5 : ℕ
   after-5 = cond (not (law-6 j fs)) 6 after-6
@@ -55,7 +59,7 @@ module _ (j : Job) (fs : List Four) where
   after-1 = cond (not (law-2 j fs)) 2 after-2
 
   broken-chain : broken j fs ≡ cond (not (law-1 (length (j .points)) fs)) 1 after-1
-  unfolding broken after-1 after-2 after-3 after-4 after-5 after-6
+  unfolding broken after-1 after-2 after-3 after-4 after-5 after-6 after-7
   broken-chain = refl
 
 module _ (l : Lists) (fs : List Four) where
@@ -84,10 +88,14 @@ module _ (l : Lists) (fs : List Four) where
   unfolding after-5 law-6 job
   at-6 = record { is = ap (λ (n : ℕ). cond (not (corners-from n 0 fs)) 6 (after-6 (job l) fs)) (points-count (l .points)) }
 
-  pub at-7 : Chain (after-6 (job l) fs) (not (all-kept (kept-in (l .kept)) fs)) 7 0
+  pub at-7 : Chain (after-6 (job l) fs) (not (all-kept (kept-in (l .kept)) fs)) 7 (after-7 (job l) fs)
   unfolding after-6 law-7 job
-  at-7 = record { is = other-way (all-kept (kept-in (l .kept)) fs) }
+  at-7 = record { is = refl }
+
+  pub at-8 : Chain (after-7 (job l) fs) (not (all-faced (triangles-in (l .inner)) (all-faces (points-in (l .points)) fs))) 8 0
+  unfolding after-7 law-8 job
+  at-8 = record { is = other-way (all-faced (triangles-in (l .inner)) (all-faces (points-in (l .points)) fs)) }
     where
-      other-way : (b : Bool) → _≡_ {A = ℕ} (cond b 0 7) (cond (not b) 7 0)
+      other-way : (b : Bool) → _≡_ {A = ℕ} (cond b 0 8) (cond (not b) 8 0)
       other-way true = refl
       other-way false = refl

@@ -1,4 +1,4 @@
--- Law 4 by flags: one for each number of a directed triangle. Assumes nothing: these are definitions.
+-- Laws 4 and 8 by flags: one for each number of a directed triangle. Assumes nothing: these are definitions.
 use mathlib.Core.Bool.{Bool, true, _&&_, _||_, not}
 use mathlib.Core.List.{List, [], _∷_}
 use Prim.Native.Nat.{ℕ}
@@ -26,6 +26,14 @@ all-new (t ∷ ts) fl = not (flagged (flag-all ts fl) t) && all-new ts fl
 unfoldable pub all-flagged : List Tri → (flags : List ℕ) → Bool
 all-flagged [] fl = true
 all-flagged (t ∷ ts) fl = flagged fl t && all-flagged ts fl
+
+-- the flag of a triangle or of its reverse
+unfoldable pub flagged-either : (flags : List ℕ) → Tri → Bool
+flagged-either fl t = flagged fl t || flagged fl (reversed t)
+
+unfoldable pub all-flagged-either : List Tri → (flags : List ℕ) → Bool
+all-flagged-either [] fl = true
+all-flagged-either (t ∷ ts) fl = flagged-either fl t && all-flagged-either ts fl
 
 -- a face is a boundary triangle, or its reverse is a face and no boundary triangle
 unfoldable pub closed : (own bound : List ℕ) → Tri → Bool

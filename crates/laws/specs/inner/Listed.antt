@@ -8,12 +8,15 @@ use lib.ListN.{length, getD, set, drop}
 use Rattle.laws.specs.Laws.{Tri, tri, Edge, same-tri, reversed}
 use Rattle.laws.specs.Check.{tris-in, edges-in, how-often}
 
--- lengths that numbers 5 and 9 let pass
+-- lengths that numbers 5, 9 and 22 let pass
 abbrev pub triangles-right : List ℕ → Bool
 triangles-right ts = eqb (length ts % 3) 0 && (leb 4 (length ts / 3) && leb (length ts / 3) 560)
 
 abbrev pub kept-right : List ℕ → Bool
 kept-right es = eqb (length es % 2) 0 && leb (length es / 2) 120
+
+abbrev pub inner-right : List ℕ → Bool
+inner-right ks = eqb (length ks % 3) 0 && leb (length ks / 3) 560
 
 -- triangles and kept edges by number
 abbrev pub triangles-in : List ℕ → List Tri

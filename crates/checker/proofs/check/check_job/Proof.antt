@@ -3,21 +3,20 @@ use mathlib.Core.Path.{_≡_, refl, sym, ap, _∙_}
 use mathlib.Core.Bool.{false, not}
 use Prim.Native.Nat.{ℕ, _/_, _≤_}
 use native.Mathlib.Omega.{arith}
-use borrow.Author.Tests.{not-false, eqb-true}
+use borrow.Author.Tests.{not-false}
 use lib.ListN.{length}
 use Rattle.geometry.specs.Range.{any-far}
-use Rattle.laws.specs.Laws.{choose}
 use Rattle.laws.specs.Lists.{Lists, job-lists}
 use Rattle.laws.specs.Check.{job-refusal}
 use Rattle.laws.proofs.Checker.Points.{points-count}
 use Rattle.laws.proofs.Checker.Refusal.{Few, points-few, triangles-few, all-within}
-use Rattle.laws.proofs.Checker.Chain.{stop, pass, at-2, at-3, at-4, at-5, at-6, at-7, at-8, at-9, at-10, at-11, at-12, at-13, from-3, from-4, from-5, from-6, from-7, from-8, from-9, from-10, from-11, from-12, from-13}
+use Rattle.laws.proofs.Checker.Chain.{stop, pass, at-2, at-3, at-4, at-5, at-6, at-7, at-8, at-9, at-10, at-22, at-23, from-11-bare, table-chain, from-3, from-4, from-5, from-6, from-7, from-8, from-9, from-10, from-22, from-23, from-11}
 use Rattle.checker.proofs.check.check_job.Statement.{statement}
 use Rattle.checker.proofs.check.check_job.Tie as tie
 
 -- where the function starts, seen from each test passed
 abbrev start-2 : tie.Else1 → tie.Start
-start-2 c = c .before .before .before .before
+start-2 c = c .before .before .before .before .before
 
 abbrev start-3 : tie.Else2 → tie.Start
 start-3 c = start-2 (c .before .before)
@@ -43,18 +42,15 @@ start-9 c = start-8 (c .before .before)
 abbrev start-10 : tie.Else9 → tie.Start
 start-10 c = start-9 (c .before .before)
 
-abbrev start-11 : tie.Else10 → tie.Start
-start-11 c = start-10 (c .before .before)
+abbrev start-22 : tie.Else10 → tie.Start
+start-22 c = start-10 (c .before .before)
 
-abbrev start-12 : tie.Else11 → tie.Start
-start-12 c = start-11 (c .before .before)
-
-abbrev start-13 : tie.Else12 → tie.Start
-start-13 c = start-12 (c .before .before)
+abbrev start-23 : tie.Else11 → tie.Start
+start-23 c = start-22 (c .before .before)
 
 -- the answer is what the chain of numbers still has to say
 abbrev the-lists : tie.Start → Lists
-the-lists s = job-lists (s .args .points .now) (s .args .triangles .now) (s .args .kept .now) (s .args .table .now)
+the-lists s = job-lists (s .args .points .now) (s .args .triangles .now) (s .args .kept .now) (s .args .inner .now) (s .args .table .now)
 
 abbrev Left : (Lists → ℕ) → tie.Start → Type 0
 Left rest s = job-refusal (the-lists s) ≡ rest (the-lists s)
@@ -86,17 +82,14 @@ passed-8 c = pass (passed-7 (c .before .before)) (link at-8 (start-8 c)) (c .bef
 passed-9 : (c : tie.Else8) → Left from-10 (start-9 c)
 passed-9 c = pass (passed-8 (c .before .before)) (link at-9 (start-9 c)) (ap not (c .before .kept-fit .ensures)) (c .if8 .left)
 
-passed-10 : (c : tie.Else9) → Left from-11 (start-10 c)
+passed-10 : (c : tie.Else9) → Left from-22 (start-10 c)
 passed-10 c = pass (passed-9 (c .before .before)) (link at-10 (start-10 c)) (c .before .any-edge-bad .ensures) (c .if9 .left)
 
-passed-11 : (c : tie.Else10) → Left from-12 (start-11 c)
-passed-11 c = pass (passed-10 (c .before .before)) (link at-11 (start-11 c)) (ap not (c .before .table-fits .ensures)) (c .if10 .left)
+passed-22 : (c : tie.Else10) → Left from-23 (start-22 c)
+passed-22 c = pass (passed-10 (c .before .before)) (link at-22 (start-22 c)) (ap not (c .before .inner-fits .ensures)) (c .if10 .left)
 
-passed-12 : (c : tie.Else11) → Left from-13 (start-12 c)
-passed-12 c = pass (passed-11 (c .before .before)) (link at-12 (start-12 c)) (c .before .any-entry-bad .ensures) (c .if11 .left)
-
-passed-13 : (c : tie.Else12) → Left (λ l. 0) (start-13 c)
-passed-13 c = pass (passed-12 (c .before .before)) (link at-13 (start-13 c)) (c .before .solid-unmeasured .ensures) (c .if12 .left)
+passed-23 : (c : tie.Else11) → Left from-11 (start-23 c)
+passed-23 c = pass (passed-22 (c .before .before)) (link at-23 (start-23 c)) (c .before .any-tri-bad2 .ensures) (c .if11 .left)
 
 -- what the first tests tell the later ones
 few-points : (c : tie.Else1) → Few (start-2 c .args .points .now)
@@ -117,7 +110,7 @@ points-fit-requires : tie.Need-points-fit-requires
 points-fit-requires c κs = tt
 
 returns : tie.Need-returns
-returns c = stop refl (link at-2 (c .before .before .before .before)) (ap not (c .before .points-fit .ensures)) (c .if1 .taken)
+returns c = stop refl (link at-2 (c .before .before .before .before .before)) (ap not (c .before .points-fit .ensures)) (c .if1 .taken)
 
 any-far-requires : tie.Need-any-far-requires
 any-far-requires c κs = tt
@@ -169,34 +162,25 @@ any-edge-bad-requires c κs = tt
 returns-9 : tie.Need-returns-9
 returns-9 c = stop (passed-9 (c .before .before)) (link at-10 (start-9 (c .before .before))) (c .before .any-edge-bad .ensures) (c .if9 .taken)
 
-table-fits-requires : tie.Need-table-fits-requires
-table-fits-requires c κs = few-count (c .before .before .before .before .before .before .before .before .before .before .before .before .before .before .before .before)
+inner-fits-requires : tie.Need-inner-fits-requires
+inner-fits-requires c κs = tt
 
 returns-10 : tie.Need-returns-10
-returns-10 c = stop (passed-10 (c .before .before)) (link at-11 (start-10 (c .before .before))) (ap not (c .before .table-fits .ensures)) (c .if10 .taken)
+returns-10 c = stop (passed-10 (c .before .before)) (link at-22 (start-10 (c .before .before))) (ap not (c .before .inner-fits .ensures)) (c .if10 .taken)
 
-any-entry-bad-requires : tie.Need-any-entry-bad-requires
-any-entry-bad-requires c κs = tt
+any-tri-bad-requires-2 : tie.Need-any-tri-bad-requires-2
+any-tri-bad-requires-2 c κs = tt
 
 returns-11 : tie.Need-returns-11
-returns-11 c = stop (passed-11 (c .before .before)) (link at-12 (start-11 (c .before .before))) (c .before .any-entry-bad .ensures) (c .if11 .taken)
+returns-11 c = stop (passed-22 (c .before .before)) (link at-23 (start-22 (c .before .before))) (c .before .any-tri-bad2 .ensures) (c .if11 .taken)
 
-solid-unmeasured-requires : tie.Need-solid-unmeasured-requires
-solid-unmeasured-requires c κs =
-    let t = c .before .before in
-    let s = start-11 t in
-    let q = sym (t .before .table-fits .ensures) ∙ not-false (t .before .table-fits .result) (t .if10 .left) in
-    record {
-      few = few-points (t .before .before .before .before .before .before .before .before .before .before .before .before .before .before .before .before .before .before) .few;
-      near = points-near (t .before .before .before .before .before .before .before .before .before .before .before .before .before .before .before .before);
-      full = rw (points-count (s .args .points .now)) (eqb-true (length (s .args .table .now)) (choose (length (s .args .points .now) / 3) 4) q);
-    }
+check-table-requires : tie.Need-check-table-requires
+check-table-requires c κs = (few-points (c .before .before .before .before .before .before .before .before .before .before .before .before .before .before .before .before .before .before .before .before) .few, points-near (c .before .before .before .before .before .before .before .before .before .before .before .before .before .before .before .before .before .before))
 
 returns-12 : tie.Need-returns-12
-returns-12 c = stop (passed-12 (c .before .before)) (link at-13 (start-12 (c .before .before))) (c .before .solid-unmeasured .ensures) (c .if12 .taken)
-
-returns-13 : tie.Need-returns-13
-returns-13 c = sym (passed-13 c)
+returns-12 c =
+    let s = start-23 (c .before) in
+    c .check-table .ensures ∙ table-chain (s .args .points .now) (s .args .table .now) ∙ sym (from-11-bare (the-lists s)) ∙ sym (passed-23 (c .before))
 
 pub check-job-spec : {M : Type 1} → statement M
 check-job-spec =
@@ -220,10 +204,9 @@ check-job-spec =
     returns-8
     any-edge-bad-requires
     returns-9
-    table-fits-requires
+    inner-fits-requires
     returns-10
-    any-entry-bad-requires
+    any-tri-bad-requires-2
     returns-11
-    solid-unmeasured-requires
-    returns-12
-    returns-13)
+    check-table-requires
+    returns-12)

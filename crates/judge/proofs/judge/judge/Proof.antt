@@ -11,8 +11,8 @@ check-job-requires c κs = tt
 
 returns : tie.Need-returns
 returns c =
-    let s = c .before .before .before .before .before .args in
-    let l = job-lists (s .points .now) (s .triangles .now) (s .kept .now) (s .table .now) in
+    let s = c .before .before .before .before .before .before .args in
+    let l = job-lists (s .points .now) (s .triangles .now) (s .kept .now) (s .inner .now) (s .table .now) in
     refusal-said l (s .list .now) (c .before .check-job .ensures) (c .if1 .taken)
 
 lowest-broken-requires : tie.Need-lowest-broken-requires
@@ -20,23 +20,23 @@ lowest-broken-requires c κs = search needs
 
 returns-2 : tie.Need-returns-2
 returns-2 c =
-    let s = c .before .before .before .before .before .before .before .args in
-    let l = job-lists (s .points .now) (s .triangles .now) (s .kept .now) (s .table .now) in
+    let s = c .before .before .before .before .before .before .before .before .args in
+    let l = job-lists (s .points .now) (s .triangles .now) (s .kept .now) (s .inner .now) (s .table .now) in
     broken-law-said l (s .list .now) (not-refused l (c .before .before .before .check-job .ensures) (c .before .before .if1 .left))
     (c .before .lowest-broken .ensures) (c .if2 .taken)
 
 worst-of-requires : tie.Need-worst-of-requires
 worst-of-requires c κs =
-    let s = c .before .before .before .before .before .before .before .args in
-    let l = job-lists (s .points .now) (s .triangles .now) (s .kept .now) (s .table .now) in (
+    let s = c .before .before .before .before .before .before .before .before .args in
+    let l = job-lists (s .points .now) (s .triangles .now) (s .kept .now) (s .inner .now) (s .table .now) in (
       accepted-table l (not-refused l (c .before .before .before .check-job .ensures) (c .before .before .if1 .left)),
       lawful-order l (s .list .now) (c .before .lowest-broken .ensures) (c .if2 .left),
     )
 
 returns-3 : tie.Need-returns-3
 returns-3 c =
-    let s = c .before .before .before .before .before .before .before .before .args in
-    let l = job-lists (s .points .now) (s .triangles .now) (s .kept .now) (s .table .now) in
+    let s = c .before .before .before .before .before .before .before .before .before .args in
+    let l = job-lists (s .points .now) (s .triangles .now) (s .kept .now) (s .inner .now) (s .table .now) in
     lawful-said l (s .list .now) (not-refused l (c .before .before .before .before .check-job .ensures) (c .before .before .before .if1 .left))
     (c .before .before .lowest-broken .ensures) (c .before .if2 .left) (c .worst-of .ensures)
 
