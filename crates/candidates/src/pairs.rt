@@ -73,6 +73,7 @@ pub fn piercing_sets(
     points: &[i32],
     triangles: &[u8],
     kept: &[u8],
+    inner: &[u8],
     table: &[i32],
     rows: &[u16],
     fours: &[u8],
@@ -81,7 +82,7 @@ pub fn piercing_sets(
     m: usize,
     piercing: &mut [u16],
 )
-    requires { ⌜ Context (job-lists (now points) (now triangles) (now kept) (now table)) (now fours) (now codes) (now bound) m × Rows (points-in (now points)) (now rows) × (length (now piercing) ≡ 29120) ⌝ }
+    requires { ⌜ Context (job-lists (now points) (now triangles) (now kept) (now inner) (now table)) (now fours) (now codes) (now bound) m × Rows (points-in (now points)) (now rows) × (length (now piercing) ≡ 29120) ⌝ }
     ensures { λ _. ⌜ Piercing-sets (points-in (now (points .entry))) m (now (fours .entry)) (now (piercing .exit)) × (length (now (piercing .exit)) ≡ 29120) ⌝ }
 {
     for i in 0..m * 16 {

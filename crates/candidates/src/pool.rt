@@ -15,8 +15,8 @@ ghost use Rattle.fillings.specs.Codes.{Bound-flags};
 ghost use Rattle.fillings.specs.Filing.{put-four, put-faces, copied};
 ghost use Rattle.candidates.specs.Grades.{Graded};
 ghost use Rattle.fillings.specs.Marks.{marked};
-ghost use Rattle.fillings.specs.Part.{candidate};
-ghost use Rattle.fillings.specs.Pierce.{pierces-four, pierced};
+ghost use Rattle.fillings.specs.Part.{candidate, crossed};
+ghost use Rattle.fillings.specs.Pierce.{pierces-four, pierced, edges-of};
 ghost use Rattle.fillings.specs.Tables.{Filed, Whole};
 ghost use Rattle.signs.specs.Rows.{Rows, Distinct-below};
 use checker::table::next_four;
@@ -92,17 +92,32 @@ fn edge_pierces_four(rows: &[u16], a: usize, b: usize, f: Four) -> bool
     edge_pierces(rows, a, b, f.b, f.c, f.d)
 }
 
+// Whether an edge of the triangle a, b, c does.
+fn triangle_pierces_four(rows: &[u16], a: usize, b: usize, c: usize, f: Four) -> bool
+    requires { ⌜ (length (now rows) ≡ 4096) × (a < 16) × (b < 16) × (c < 16) × ((f .a < 16) × (f .b < 16) × (f .c < 16) × (f .d < 16)) ⌝ }
+    ensures { λ r. ⌜ ((ps : List V3) → Rows ps (now (rows .entry)) → Distinct-below (length ps) f → a < length ps → b < length ps → c < length ps → r ≡ (pierces-four ps a b f || (pierces-four ps b c f || pierces-four ps c a f))) ⌝ }
+{
+    if edge_pierces_four(rows, a, b, f) {
+        return true;
+    }
+    if edge_pierces_four(rows, b, c, f) {
+        return true;
+    }
+    edge_pierces_four(rows, c, a, f)
+}
+
 // Whether some kept edge does.
 fn is_pierced(
     points: &[i32],
     triangles: &[u8],
     kept: &[u8],
+    inner: &[u8],
     table: &[i32],
     rows: &[u16],
     f: Four,
 ) -> bool
-    requires { ⌜ (job-refusal (job-lists (now points) (now triangles) (now kept) (now table)) ≡ 0) × Rows (points-in (now points)) (now rows) × Distinct-below (length (points-in (now points))) f ⌝ }
-    ensures { λ r. ⌜ r ≡ pierced (points-in (now (points .entry))) (job (job-lists (now (points .entry)) (now (triangles .entry)) (now (kept .entry)) (now (table .entry))) .kept) f ⌝ }
+    requires { ⌜ (job-refusal (job-lists (now points) (now triangles) (now kept) (now inner) (now table)) ≡ 0) × Rows (points-in (now points)) (now rows) × Distinct-below (length (points-in (now points))) f ⌝ }
+    ensures { λ r. ⌜ r ≡ pierced (points-in (now (points .entry))) (job (job-lists (now (points .entry)) (now (triangles .entry)) (now (kept .entry)) (now (inner .entry)) (now (table .entry))) .kept) f ⌝ }
 {
     for i in 0..kept.len() / 2 {
         let a = kept[i * 2] as usize;
@@ -114,19 +129,63 @@ fn is_pierced(
     false
 }
 
+// Whether some edge of an inner triangle does.
+fn is_pierced_by_inner(
+    points: &[i32],
+    triangles: &[u8],
+    kept: &[u8],
+    inner: &[u8],
+    table: &[i32],
+    rows: &[u16],
+    f: Four,
+) -> bool
+    requires { ⌜ (job-refusal (job-lists (now points) (now triangles) (now kept) (now inner) (now table)) ≡ 0) × Rows (points-in (now points)) (now rows) × Distinct-below (length (points-in (now points))) f ⌝ }
+    ensures { λ r. ⌜ r ≡ pierced (points-in (now (points .entry))) (edges-of (job (job-lists (now (points .entry)) (now (triangles .entry)) (now (kept .entry)) (now (inner .entry)) (now (table .entry))) .inner)) f ⌝ }
+{
+    for i in 0..inner.len() / 3 {
+        let a = inner[i * 3] as usize;
+        let b = inner[i * 3 + 1] as usize;
+        let c = inner[i * 3 + 2] as usize;
+        if triangle_pierces_four(rows, a, b, c, f) {
+            return true;
+        }
+    }
+    false
+}
+
+// Whether an edge that every lawful filling has runs through a face of f.
+fn is_crossed(
+    points: &[i32],
+    triangles: &[u8],
+    kept: &[u8],
+    inner: &[u8],
+    table: &[i32],
+    rows: &[u16],
+    f: Four,
+) -> bool
+    requires { ⌜ (job-refusal (job-lists (now points) (now triangles) (now kept) (now inner) (now table)) ≡ 0) × Rows (points-in (now points)) (now rows) × Distinct-below (length (points-in (now points))) f ⌝ }
+    ensures { λ r. ⌜ r ≡ crossed (job (job-lists (now (points .entry)) (now (triangles .entry)) (now (kept .entry)) (now (inner .entry)) (now (table .entry)))) f ⌝ }
+{
+    if is_pierced(points, triangles, kept, inner, table, rows, f) {
+        return true;
+    }
+    is_pierced_by_inner(points, triangles, kept, inner, table, rows, f)
+}
+
 // Whether f can stand in a lawful filling, but for its quality.
 fn can_stand(
     points: &[i32],
     triangles: &[u8],
     kept: &[u8],
+    inner: &[u8],
     table: &[i32],
     rows: &[u16],
     bound: &[u16],
     n: usize,
     f: Four,
 ) -> bool
-    requires { ⌜ (job-refusal (job-lists (now points) (now triangles) (now kept) (now table)) ≡ 0) × Rows (points-in (now points)) (now rows) × Bound-flags (job (job-lists (now points) (now triangles) (now kept) (now table)) .triangles) (now bound) × (length (now bound) ≡ 4096) × (n ≡ length (points-in (now points))) × Ordered n f ⌝ }
-    ensures { λ r. ⌜ (0 < quality (entry (job (job-lists (now (points .entry)) (now (triangles .entry)) (now (kept .entry)) (now (table .entry)))) f) → r ≡ candidate (job (job-lists (now (points .entry)) (now (triangles .entry)) (now (kept .entry)) (now (table .entry)))) f) ⌝ }
+    requires { ⌜ (job-refusal (job-lists (now points) (now triangles) (now kept) (now inner) (now table)) ≡ 0) × Rows (points-in (now points)) (now rows) × Bound-flags (job (job-lists (now points) (now triangles) (now kept) (now inner) (now table)) .triangles) (now bound) × (length (now bound) ≡ 4096) × (n ≡ length (points-in (now points))) × Ordered n f ⌝ }
+    ensures { λ r. ⌜ (0 < quality (entry (job (job-lists (now (points .entry)) (now (triangles .entry)) (now (kept .entry)) (now (inner .entry)) (now (table .entry)))) f) → r ≡ candidate (job (job-lists (now (points .entry)) (now (triangles .entry)) (now (kept .entry)) (now (inner .entry)) (now (table .entry)))) f) ⌝ }
 {
     if !is_solid(rows, f) {
         return false;
@@ -138,7 +197,7 @@ fn can_stand(
     if any_inside(rows, g) {
         return false;
     }
-    !is_pierced(points, triangles, kept, table, rows, f)
+    !is_crossed(points, triangles, kept, inner, table, rows, f)
 }
 
 // Writes the bytes of a four at the place k.
@@ -188,6 +247,7 @@ fn grade(
     points: &[i32],
     triangles: &[u8],
     kept: &[u8],
+    inner: &[u8],
     table: &[i32],
     rows: &[u16],
     bound: &[u16],
@@ -196,8 +256,8 @@ fn grade(
     f: Four,
     at: usize,
 ) -> u32
-    requires { ⌜ (job-refusal (job-lists (now points) (now triangles) (now kept) (now table)) ≡ 0) × Rows (points-in (now points)) (now rows) × Bound-flags (job (job-lists (now points) (now triangles) (now kept) (now table)) .triangles) (now bound) × (length (now bound) ≡ 4096) × (n ≡ length (points-in (now points))) × Ordered n f × (at ≡ place n f) × (0 < q) ⌝ }
-    ensures { λ r. ⌜ Graded (job (job-lists (now (points .entry)) (now (triangles .entry)) (now (kept .entry)) (now (table .entry)))) q f r ⌝ }
+    requires { ⌜ (job-refusal (job-lists (now points) (now triangles) (now kept) (now inner) (now table)) ≡ 0) × Rows (points-in (now points)) (now rows) × Bound-flags (job (job-lists (now points) (now triangles) (now kept) (now inner) (now table)) .triangles) (now bound) × (length (now bound) ≡ 4096) × (n ≡ length (points-in (now points))) × Ordered n f × (at ≡ place n f) × (0 < q) ⌝ }
+    ensures { λ r. ⌜ Graded (job (job-lists (now (points .entry)) (now (triangles .entry)) (now (kept .entry)) (now (inner .entry)) (now (table .entry)))) q f r ⌝ }
 {
     let e = table[at];
     if e <= 0 {
@@ -207,7 +267,7 @@ fn grade(
     if v < q {
         return 0;
     }
-    if !can_stand(points, triangles, kept, table, rows, bound, n, f) {
+    if !can_stand(points, triangles, kept, inner, table, rows, bound, n, f) {
         return 0;
     }
     v
@@ -218,6 +278,7 @@ pub fn gather(
     points: &[i32],
     triangles: &[u8],
     kept: &[u8],
+    inner: &[u8],
     table: &[i32],
     rows: &[u16],
     bound: &[u16],
@@ -226,8 +287,8 @@ pub fn gather(
     codes: &mut [u16; 7280],
     qualities: &mut [u32; 1820],
 ) -> usize
-    requires { ⌜ (job-refusal (job-lists (now points) (now triangles) (now kept) (now table)) ≡ 0) × Rows (points-in (now points)) (now rows) × Bound-flags (job (job-lists (now points) (now triangles) (now kept) (now table)) .triangles) (now bound) × (length (now bound) ≡ 4096) × (0 < q) × (length (now fours) ≡ 7280) × (length (now codes) ≡ 7280) × (length (now qualities) ≡ 1820) ⌝ }
-    ensures { λ r. ⌜ Whole (job-lists (now (points .entry)) (now (triangles .entry)) (now (kept .entry)) (now (table .entry))) q (now (fours .exit)) (now (codes .exit)) (now (qualities .exit)) r ⌝ }
+    requires { ⌜ (job-refusal (job-lists (now points) (now triangles) (now kept) (now inner) (now table)) ≡ 0) × Rows (points-in (now points)) (now rows) × Bound-flags (job (job-lists (now points) (now triangles) (now kept) (now inner) (now table)) .triangles) (now bound) × (length (now bound) ≡ 4096) × (0 < q) × (length (now fours) ≡ 7280) × (length (now codes) ≡ 7280) × (length (now qualities) ≡ 1820) ⌝ }
+    ensures { λ r. ⌜ Whole (job-lists (now (points .entry)) (now (triangles .entry)) (now (kept .entry)) (now (inner .entry)) (now (table .entry))) q (now (fours .exit)) (now (codes .exit)) (now (qualities .exit)) r ⌝ }
 {
     let n = points.len() / 3;
     let mut f = Four {
@@ -239,7 +300,19 @@ pub fn gather(
     let mut at: usize = 0;
     let mut k: usize = 0;
     while f.d < n {
-        let v = grade(points, triangles, kept, table, rows, bound, n, q, f, at);
+        let v = grade(
+            points,
+            triangles,
+            kept,
+            inner,
+            table,
+            rows,
+            bound,
+            n,
+            q,
+            f,
+            at,
+        );
         if v > 0 {
             file(points, rows, fours, codes, qualities, k, f, v);
             k += 1;
@@ -276,6 +349,7 @@ pub fn compact(
     points: &[i32],
     triangles: &[u8],
     kept: &[u8],
+    inner: &[u8],
     table: &[i32],
     fours: &[u8],
     codes: &[u16],
@@ -286,8 +360,8 @@ pub fn compact(
     codes2: &mut [u16; 7280],
     qualities2: &mut [u32; 1820],
 ) -> usize
-    requires { ⌜ Filed (job-lists (now points) (now triangles) (now kept) (now table)) (now fours) (now codes) (now qualities) m × (m ≤ length (now marks)) × (length (now fours2) ≡ 7280) × (length (now codes2) ≡ 7280) × (length (now qualities2) ≡ 1820) ⌝ }
-    ensures { λ r. ⌜ Filed (job-lists (now (points .entry)) (now (triangles .entry)) (now (kept .entry)) (now (table .entry))) (now (fours2 .exit)) (now (codes2 .exit)) (now (qualities2 .exit)) r × (fours-in r (now (fours2 .exit)) ≡ marked 1 (fours-in m (now (fours .entry))) (now (marks .entry))) ⌝ }
+    requires { ⌜ Filed (job-lists (now points) (now triangles) (now kept) (now inner) (now table)) (now fours) (now codes) (now qualities) m × (m ≤ length (now marks)) × (length (now fours2) ≡ 7280) × (length (now codes2) ≡ 7280) × (length (now qualities2) ≡ 1820) ⌝ }
+    ensures { λ r. ⌜ Filed (job-lists (now (points .entry)) (now (triangles .entry)) (now (kept .entry)) (now (inner .entry)) (now (table .entry))) (now (fours2 .exit)) (now (codes2 .exit)) (now (qualities2 .exit)) r × (fours-in r (now (fours2 .exit)) ≡ marked 1 (fours-in m (now (fours .entry))) (now (marks .entry))) ⌝ }
 {
     let mut c: usize = 0;
     for k in 0..m {

@@ -44,6 +44,7 @@ pub fn face(
     points: &[i32],
     triangles: &[u8],
     kept: &[u8],
+    inner: &[u8],
     table: &[i32],
     faces: &[[u16; 4096]; 3],
     fours: &[u8],
@@ -57,13 +58,14 @@ pub fn face(
     state: &mut [[u16; 4096]; 4],
     top: usize,
 ) -> Extension
-    requires { ⌜ Prepared (job-lists (now points) (now triangles) (now kept) (now table)) (now faces) (now fours) (now codes) m (now corners) (now piercing) × Ready (job (job-lists (now points) (now triangles) (now kept) (now table))) (fours-in m (now fours)) (marks-of (now state)) × In-order m (now codes) (now state) top ⌝ }
-    ensures { λ r. ⌜ Explored (job (job-lists (now (points .entry)) (now (triangles .entry)) (now (kept .entry)) (now (table .entry)))) (fours-in m (now (fours .entry))) m (now (codes .entry)) (marks-of (now (state .entry))) (held-of (now (state .entry))) (trail-of (now (state .entry))) top (r .found) (marks-of (now (state .exit))) (owners-of (now (state .exit))) (held-of (now (state .exit))) (trail-of (now (state .exit))) (r .top) × (length (now (state .exit)) ≡ 4) ⌝ }
+    requires { ⌜ Prepared (job-lists (now points) (now triangles) (now kept) (now inner) (now table)) (now faces) (now fours) (now codes) m (now corners) (now piercing) × Ready (job (job-lists (now points) (now triangles) (now kept) (now inner) (now table))) (fours-in m (now fours)) (marks-of (now state)) × In-order m (now codes) (now state) top ⌝ }
+    ensures { λ r. ⌜ Explored (job (job-lists (now (points .entry)) (now (triangles .entry)) (now (kept .entry)) (now (inner .entry)) (now (table .entry)))) (fours-in m (now (fours .entry))) m (now (codes .entry)) (marks-of (now (state .entry))) (held-of (now (state .entry))) (trail-of (now (state .entry))) top (r .found) (marks-of (now (state .exit))) (owners-of (now (state .exit))) (held-of (now (state .exit))) (trail-of (now (state .exit))) (r .top) × (length (now (state .exit)) ≡ 4) ⌝ }
 {
     let z = propagate(
         points,
         triangles,
         kept,
+        inner,
         table,
         faces,
         fours,
@@ -96,6 +98,7 @@ pub fn face(
                     points,
                     triangles,
                     kept,
+                    inner,
                     table,
                     faces,
                     fours,
@@ -121,6 +124,7 @@ pub fn face(
                             points,
                             triangles,
                             kept,
+                            inner,
                             table,
                             faces,
                             fours,
@@ -150,6 +154,7 @@ pub fn corner(
     points: &[i32],
     triangles: &[u8],
     kept: &[u8],
+    inner: &[u8],
     table: &[i32],
     faces: &[[u16; 4096]; 3],
     fours: &[u8],
@@ -163,14 +168,15 @@ pub fn corner(
     state: &mut [[u16; 4096]; 4],
     top: usize,
 ) -> Extension
-    requires { ⌜ Prepared (job-lists (now points) (now triangles) (now kept) (now table)) (now faces) (now fours) (now codes) m (now corners) (now piercing) × Ready (job (job-lists (now points) (now triangles) (now kept) (now table))) (fours-in m (now fours)) (marks-of (now state)) × In-order m (now codes) (now state) top × (t < m) × (getD (marks-of (now state)) t 0 ≡ 1) ⌝ }
-    ensures { λ r. ⌜ Explored-corner (job (job-lists (now (points .entry)) (now (triangles .entry)) (now (kept .entry)) (now (table .entry)))) (fours-in m (now (fours .entry))) m t (marks-of (now (state .entry))) (owners-of (now (state .entry))) (held-of (now (state .entry))) (trail-of (now (state .entry))) top (r .found) (marks-of (now (state .exit))) (owners-of (now (state .exit))) (held-of (now (state .exit))) (trail-of (now (state .exit))) × (length (now (state .exit)) ≡ 4) ⌝ }
+    requires { ⌜ Prepared (job-lists (now points) (now triangles) (now kept) (now inner) (now table)) (now faces) (now fours) (now codes) m (now corners) (now piercing) × Ready (job (job-lists (now points) (now triangles) (now kept) (now inner) (now table))) (fours-in m (now fours)) (marks-of (now state)) × In-order m (now codes) (now state) top × (t < m) × (getD (marks-of (now state)) t 0 ≡ 1) ⌝ }
+    ensures { λ r. ⌜ Explored-corner (job (job-lists (now (points .entry)) (now (triangles .entry)) (now (kept .entry)) (now (inner .entry)) (now (table .entry)))) (fours-in m (now (fours .entry))) m t (marks-of (now (state .entry))) (owners-of (now (state .entry))) (held-of (now (state .entry))) (trail-of (now (state .entry))) top (r .found) (marks-of (now (state .exit))) (owners-of (now (state .exit))) (held-of (now (state .exit))) (trail-of (now (state .exit))) × (length (now (state .exit)) ≡ 4) ⌝ }
 {
     let end = place(codes, m, fours, corners, piercing, t, state, top);
     let a = face(
         points,
         triangles,
         kept,
+        inner,
         table,
         faces,
         fours,

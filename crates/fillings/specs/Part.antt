@@ -9,7 +9,7 @@ use Rattle.geometry.specs.Space.{V3, solid, turned, apart}
 use Rattle.geometry.specs.declared.tetrahedron.Four.{Four}
 use Rattle.laws.specs.Laws.{Job, Tri, rising, four-before, entry, quality, interior-empty, faces, reversed, has, lawful}
 use Rattle.laws.specs.inner.Members.{In}
-use Rattle.fillings.specs.Pierce.{pierced}
+use Rattle.fillings.specs.Pierce.{pierced, edges-of}
 
 -- some triangle of one list stands in the other
 unfoldable pub shares : (one other : List Tri) → Bool
@@ -21,13 +21,17 @@ unfoldable pub reverses : (faces boundary : List Tri) → Bool
 reverses [] bs = false
 reverses (t ∷ ts) bs = has (reversed t) bs || reverses ts bs
 
+-- an edge that every lawful filling has runs through a face: a kept edge, or one of an inner triangle
+unfoldable pub crossed : Job → Four → Bool
+crossed j f = pierced (j .points) (j .kept) f || pierced (j .points) (edges-of (j .inner)) f
+
 -- what every four of a lawful filling is, each by itself
 unfoldable pub candidate : Job → Four → Bool
 candidate j f =
     (rising f && ltb (f .d) (length (j .points)))
     && ((solid (j .points) f && ltb 0 (quality (entry j f)))
     && (interior-empty (j .points) f
-    && (not (reverses (faces (turned (j .points) f)) (j .triangles)) && not (pierced (j .points) (j .kept) f))))
+    && (not (reverses (faces (turned (j .points) f)) (j .triangles)) && not (crossed j f))))
 
 -- no outward face in common
 unfoldable pub unshared : List V3 → (t u : Four) → Bool

@@ -4,7 +4,7 @@ use mathlib.Core.List.{List, [], _∷_}
 use Prim.Native.Nat.{ℕ}
 use Rattle.geometry.specs.Space.{Z, V3, point, det, above, zero-z}
 use Rattle.geometry.specs.declared.tetrahedron.Four.{Four}
-use Rattle.laws.specs.Laws.{Edge}
+use Rattle.laws.specs.Laws.{Edge, Tri}
 
 -- strictly opposite signs
 unfoldable pub opposite : Z → Z → Bool
@@ -32,3 +32,8 @@ pierces-four ps a b t =
 unfoldable pub pierced : List V3 → List Edge → Four → Bool
 pierced ps [] t = false
 pierced ps (e ∷ es) t = pierces-four ps (e .a) (e .b) t || pierced ps es t
+
+-- the three edges of each triangle
+unfoldable pub edges-of : List Tri → List Edge
+edges-of [] = []
+edges-of (t ∷ ts) = record { a = t .a; b = t .b } ∷ record { a = t .b; b = t .c } ∷ record { a = t .c; b = t .a } ∷ edges-of ts

@@ -25,6 +25,7 @@ pub(crate) fn decide(
     points: &[i32],
     triangles: &[u8],
     kept: &[u8],
+    inner: &[u8],
     table: &[i32],
     faces: &[[u16; 4096]; 3],
     fours: &[u8],
@@ -39,8 +40,8 @@ pub(crate) fn decide(
     state: &mut [[u16; 4096]; 4],
     top: usize,
 ) -> bool
-    requires { ⌜ Prepared (job-lists (now points) (now triangles) (now kept) (now table)) (now faces) (now fours) (now codes) m (now corners) (now piercing) × Ready (job (job-lists (now points) (now triangles) (now kept) (now table))) (fours-in m (now fours)) (marks-of (now state)) × In-order m (now codes) (now state) top × (k < m) × (getD (marks-of (now state)) k 0 ≡ 1) × Fills (job (job-lists (now points) (now triangles) (now kept) (now table))) (fours-in m (now fours)) (marks-of (now state)) (marked 2 (fours-in m (now fours)) (now witness)) ⌝ }
-    ensures { λ r. ⌜ Taken (job (job-lists (now (points .entry)) (now (triangles .entry)) (now (kept .entry)) (now (table .entry)))) (fours-in m (now (fours .entry))) k (marks-of (now (state .entry))) (owners-of (now (state .entry))) (held-of (now (state .entry))) (now (witness .entry)) r (now (witness .exit)) (marks-of (now (state .exit))) (owners-of (now (state .exit))) (held-of (now (state .exit))) (trail-of (now (state .exit))) × (length (now (state .exit)) ≡ 4) ⌝ }
+    requires { ⌜ Prepared (job-lists (now points) (now triangles) (now kept) (now inner) (now table)) (now faces) (now fours) (now codes) m (now corners) (now piercing) × Ready (job (job-lists (now points) (now triangles) (now kept) (now inner) (now table))) (fours-in m (now fours)) (marks-of (now state)) × In-order m (now codes) (now state) top × (k < m) × (getD (marks-of (now state)) k 0 ≡ 1) × Fills (job (job-lists (now points) (now triangles) (now kept) (now inner) (now table))) (fours-in m (now fours)) (marks-of (now state)) (marked 2 (fours-in m (now fours)) (now witness)) ⌝ }
+    ensures { λ r. ⌜ Taken (job (job-lists (now (points .entry)) (now (triangles .entry)) (now (kept .entry)) (now (inner .entry)) (now (table .entry)))) (fours-in m (now (fours .entry))) k (marks-of (now (state .entry))) (owners-of (now (state .entry))) (held-of (now (state .entry))) (now (witness .entry)) r (now (witness .exit)) (marks-of (now (state .exit))) (owners-of (now (state .exit))) (held-of (now (state .exit))) (trail-of (now (state .exit))) × (length (now (state .exit)) ≡ 4) ⌝ }
 {
     if witness[k] == 2 {
         return true;
@@ -50,6 +51,7 @@ pub(crate) fn decide(
         points,
         triangles,
         kept,
+        inner,
         table,
         faces,
         fours,
@@ -78,6 +80,7 @@ pub(crate) fn step(
     points: &[i32],
     triangles: &[u8],
     kept: &[u8],
+    inner: &[u8],
     table: &[i32],
     faces: &[[u16; 4096]; 3],
     fours: &[u8],
@@ -92,13 +95,14 @@ pub(crate) fn step(
     state: &mut [[u16; 4096]; 4],
     top: usize,
 ) -> Propagated
-    requires { ⌜ Prepared (job-lists (now points) (now triangles) (now kept) (now table)) (now faces) (now fours) (now codes) m (now corners) (now piercing) × Ready (job (job-lists (now points) (now triangles) (now kept) (now table))) (fours-in m (now fours)) (marks-of (now state)) × In-order m (now codes) (now state) top × (k < m) × (getD (marks-of (now state)) k 0 ≡ 1) × Fills (job (job-lists (now points) (now triangles) (now kept) (now table))) (fours-in m (now fours)) (marks-of (now state)) (marked 2 (fours-in m (now fours)) (now witness)) ⌝ }
-    ensures { λ r. ⌜ Stepped (job-lists (now (points .entry)) (now (triangles .entry)) (now (kept .entry)) (now (table .entry))) m (now (fours .entry)) (now (codes .entry)) (now (corners .entry)) (now (piercing .entry)) k (marks-of (now (state .entry))) (owners-of (now (state .entry))) (held-of (now (state .entry))) (now (witness .entry)) (now (witness .exit)) (r .kind) (marks-of (now (state .exit))) (owners-of (now (state .exit))) (held-of (now (state .exit))) (trail-of (now (state .exit))) (r .top) × (length (now (state .exit)) ≡ 4) ⌝ }
+    requires { ⌜ Prepared (job-lists (now points) (now triangles) (now kept) (now inner) (now table)) (now faces) (now fours) (now codes) m (now corners) (now piercing) × Ready (job (job-lists (now points) (now triangles) (now kept) (now inner) (now table))) (fours-in m (now fours)) (marks-of (now state)) × In-order m (now codes) (now state) top × (k < m) × (getD (marks-of (now state)) k 0 ≡ 1) × Fills (job (job-lists (now points) (now triangles) (now kept) (now inner) (now table))) (fours-in m (now fours)) (marks-of (now state)) (marked 2 (fours-in m (now fours)) (now witness)) ⌝ }
+    ensures { λ r. ⌜ Stepped (job-lists (now (points .entry)) (now (triangles .entry)) (now (kept .entry)) (now (inner .entry)) (now (table .entry))) m (now (fours .entry)) (now (codes .entry)) (now (corners .entry)) (now (piercing .entry)) k (marks-of (now (state .entry))) (owners-of (now (state .entry))) (held-of (now (state .entry))) (now (witness .entry)) (now (witness .exit)) (r .kind) (marks-of (now (state .exit))) (owners-of (now (state .exit))) (held-of (now (state .exit))) (trail-of (now (state .exit))) (r .top) × (length (now (state .exit)) ≡ 4) ⌝ }
 {
     let taken = decide(
         points,
         triangles,
         kept,
+        inner,
         table,
         faces,
         fours,
@@ -118,6 +122,7 @@ pub(crate) fn step(
         points,
         triangles,
         kept,
+        inner,
         table,
         faces,
         fours,
@@ -138,6 +143,7 @@ pub fn first_list(
     points: &[i32],
     triangles: &[u8],
     kept: &[u8],
+    inner: &[u8],
     table: &[i32],
     faces: &[[u16; 4096]; 3],
     fours: &[u8],
@@ -151,8 +157,8 @@ pub fn first_list(
     from: Attempt,
     state: &mut [[u16; 4096]; 4],
 ) -> Attempt
-    requires { ⌜ Prepared (job-lists (now points) (now triangles) (now kept) (now table)) (now faces) (now fours) (now codes) m (now corners) (now piercing) × Highest (job-lists (now points) (now triangles) (now kept) (now table)) (now fours) (now codes) (now qualities) m (from .worst) (suc (from .worst)) (from .mark) × Sized-state (now state) ⌝ }
-    ensures { λ r. ⌜ (r .worst ≡ from .worst) × Best (job (job-lists (now (points .entry)) (now (triangles .entry)) (now (kept .entry)) (now (table .entry)))) (marked 2 (fours-in m (now (fours .entry))) (r .mark)) ⌝ }
+    requires { ⌜ Prepared (job-lists (now points) (now triangles) (now kept) (now inner) (now table)) (now faces) (now fours) (now codes) m (now corners) (now piercing) × Highest (job-lists (now points) (now triangles) (now kept) (now inner) (now table)) (now fours) (now codes) (now qualities) m (from .worst) (suc (from .worst)) (from .mark) × Sized-state (now state) ⌝ }
+    ensures { λ r. ⌜ (r .worst ≡ from .worst) × Best (job (job-lists (now (points .entry)) (now (triangles .entry)) (now (kept .entry)) (now (inner .entry)) (now (table .entry)))) (marked 2 (fours-in m (now (fours .entry))) (r .mark)) ⌝ }
 {
     let mut witness = from.mark;
     begin(codes, qualities, m, from.worst, state);
@@ -163,6 +169,7 @@ pub fn first_list(
                 points,
                 triangles,
                 kept,
+                inner,
                 table,
                 faces,
                 fours,

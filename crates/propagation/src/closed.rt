@@ -19,6 +19,7 @@ pub(crate) fn apart_from_lower(
     points: &[i32],
     triangles: &[u8],
     kept: &[u8],
+    inner: &[u8],
     table: &[i32],
     rows: &[u16],
     fours: &[u8],
@@ -28,7 +29,7 @@ pub(crate) fn apart_from_lower(
     marks: &[u16],
     k: usize,
 ) -> bool
-    requires { ⌜ Context (job-lists (now points) (now triangles) (now kept) (now table)) (now fours) (now codes) (now bound) m × Rows (points-in (now points)) (now rows) × (m ≤ length (now marks)) × (k < m) × (getD (now marks) k 0 ≡ 2) ⌝ }
+    requires { ⌜ Context (job-lists (now points) (now triangles) (now kept) (now inner) (now table)) (now fours) (now codes) (now bound) m × Rows (points-in (now points)) (now rows) × (m ≤ length (now marks)) × (k < m) × (getD (now marks) k 0 ≡ 2) ⌝ }
     ensures { λ r. ⌜ (r ≡ true → Apart-below (points-in (now (points .entry))) (fours-in m (now (fours .entry))) (now (marks .entry)) k) × (r ≡ false → Not-apart (points-in (now (points .entry))) (fours-in m (now (fours .entry))) (now (marks .entry)) m) ⌝ }
 {
     let g = four_at(fours, m, k);
@@ -50,6 +51,7 @@ pub(crate) fn all_apart(
     points: &[i32],
     triangles: &[u8],
     kept: &[u8],
+    inner: &[u8],
     table: &[i32],
     rows: &[u16],
     fours: &[u8],
@@ -58,7 +60,7 @@ pub(crate) fn all_apart(
     m: usize,
     marks: &[u16],
 ) -> bool
-    requires { ⌜ Context (job-lists (now points) (now triangles) (now kept) (now table)) (now fours) (now codes) (now bound) m × Rows (points-in (now points)) (now rows) × (m ≤ length (now marks)) ⌝ }
+    requires { ⌜ Context (job-lists (now points) (now triangles) (now kept) (now inner) (now table)) (now fours) (now codes) (now bound) m × Rows (points-in (now points)) (now rows) × (m ≤ length (now marks)) ⌝ }
     ensures { λ r. ⌜ (r ≡ true → All-apart (points-in (now (points .entry))) (fours-in m (now (fours .entry))) (now (marks .entry)) m) × (r ≡ false → Not-apart (points-in (now (points .entry))) (fours-in m (now (fours .entry))) (now (marks .entry)) m) ⌝ }
 {
     for k in 0..m {
@@ -67,6 +69,7 @@ pub(crate) fn all_apart(
                 points,
                 triangles,
                 kept,
+                inner,
                 table,
                 rows,
                 fours,

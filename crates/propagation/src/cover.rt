@@ -1,13 +1,15 @@
-// What the candidates with a mark cover: points and kept edges, by flags for two points.
+// What the candidates with a mark cover: points and kept edges by flags for two points, inner triangles by counts for a face.
 ghost use mathlib.Core.Path.{_≡_};
 ghost use mathlib.Core.Bool.{true, false};
 ghost use Prim.Native.Nat.{_+_, _*_, _/_, _<_, _≤_};
 ghost use lib.ListN.{length};
-ghost use Rattle.laws.specs.Laws.{fours-in};
+ghost use Rattle.laws.specs.Laws.{tri, fours-in};
+ghost use Rattle.laws.specs.inner.Listed.{All-within};
 ghost use Rattle.laws.specs.inner.ListedFours.{Below};
 ghost use Rattle.fillings.specs.Marks.{nth};
-ghost use Rattle.fillings.specs.Tables.{All-below, linked, Links-are, All-linked, Unlinked};
+ghost use Rattle.fillings.specs.Tables.{All-below, linked, Links-are, All-linked, Unlinked, counted-either, All-faced, Unfaced};
 use geometry::tetrahedron::Four;
+use signs::codes::face_code;
 
 // Flags by two points: 16 times the one and the other.
 pub(crate) struct Links {
@@ -72,6 +74,32 @@ pub(crate) fn all_linked(kept: &[u8], n: usize, link: &[u8]) -> bool
         let b = kept[i * 2 + 1] as usize;
         let y = link[a * 16 + b];
         if y == 0 {
+            return false;
+        }
+    }
+    true
+}
+
+// Whether the triangle a, b, c or its reverse is counted in a row by face code.
+fn is_counted(row: &[u16; 4096], a: usize, b: usize, c: usize) -> bool
+    requires { ⌜ (a < 16) × (b < 16) × (c < 16) ⌝ }
+    ensures { λ r. ⌜ r ≡ counted-either (now (row .entry)) (tri a b c) ⌝ }
+{
+    let forth = face_code(a, b, c);
+    let back = face_code(a, c, b);
+    (0 < row[forth]) | (0 < row[back])
+}
+
+// Whether every inner triangle is, in one of two rows.
+pub(crate) fn all_faced(inner: &[u8], one: &[u16; 4096], other: &[u16; 4096]) -> bool
+    requires { ⌜ All-within 16 (now inner) ⌝ }
+    ensures { λ r. ⌜ (r ≡ true → All-faced (now (inner .entry)) (now (one .entry)) (now (other .entry))) × (r ≡ false → Unfaced (now (inner .entry)) (now (one .entry)) (now (other .entry))) ⌝ }
+{
+    for i in 0..inner.len() / 3 {
+        let a = inner[i * 3] as usize;
+        let b = inner[i * 3 + 1] as usize;
+        let c = inner[i * 3 + 2] as usize;
+        if !(is_counted(one, a, b, c) | is_counted(other, a, b, c)) {
             return false;
         }
     }

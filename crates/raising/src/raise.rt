@@ -35,6 +35,7 @@ pub(crate) fn extend_from(
     points: &[i32],
     triangles: &[u8],
     kept: &[u8],
+    inner: &[u8],
     table: &[i32],
     faces: &[[u16; 4096]; 3],
     fours: &[u8],
@@ -48,8 +49,8 @@ pub(crate) fn extend_from(
     q: u32,
     state: &mut [[u16; 4096]; 4],
 ) -> bool
-    requires { ⌜ Prepared (job-lists (now points) (now triangles) (now kept) (now table)) (now faces) (now fours) (now codes) m (now corners) (now piercing) × (m ≤ length (now qualities)) × Sized-state (now state) ⌝ }
-    ensures { λ r. ⌜ Attempted-at (job (job-lists (now (points .entry)) (now (triangles .entry)) (now (kept .entry)) (now (table .entry)))) (fours-in m (now (fours .entry))) m q (now (qualities .entry)) r (marks-of (now (state .exit))) (owners-of (now (state .exit))) (held-of (now (state .exit))) (trail-of (now (state .exit))) × (length (now (state .exit)) ≡ 4) ⌝ }
+    requires { ⌜ Prepared (job-lists (now points) (now triangles) (now kept) (now inner) (now table)) (now faces) (now fours) (now codes) m (now corners) (now piercing) × (m ≤ length (now qualities)) × Sized-state (now state) ⌝ }
+    ensures { λ r. ⌜ Attempted-at (job (job-lists (now (points .entry)) (now (triangles .entry)) (now (kept .entry)) (now (inner .entry)) (now (table .entry)))) (fours-in m (now (fours .entry))) m q (now (qualities .entry)) r (marks-of (now (state .exit))) (owners-of (now (state .exit))) (held-of (now (state .exit))) (trail-of (now (state .exit))) × (length (now (state .exit)) ≡ 4) ⌝ }
 {
     begin(codes, qualities, m, q, state);
     let top = sweep(codes, &faces[2], links, m, state, 0);
@@ -57,6 +58,7 @@ pub(crate) fn extend_from(
         points,
         triangles,
         kept,
+        inner,
         table,
         faces,
         fours,
@@ -78,6 +80,7 @@ pub fn reduce(
     points: &[i32],
     triangles: &[u8],
     kept: &[u8],
+    inner: &[u8],
     table: &[i32],
     bound: &[u16],
     links: &[[u16; 7280]; 2],
@@ -90,8 +93,8 @@ pub fn reduce(
     codes2: &mut [u16; 7280],
     qualities2: &mut [u32; 1820],
 ) -> usize
-    requires { ⌜ (job-refusal (job-lists (now points) (now triangles) (now kept) (now table)) ≡ 0) × Bound-flags ((job (job-lists (now points) (now triangles) (now kept) (now table))) .triangles) (now bound) × (length (now bound) ≡ 4096) × (0 < q) × (q ≤ 1000000) × Whole (job-lists (now points) (now triangles) (now kept) (now table)) 1 (now fours) (now codes) (now qualities) m × (length (now fours2) ≡ 7280) × (length (now codes2) ≡ 7280) × (length (now qualities2) ≡ 1820) ⌝ }
-    ensures { λ r. ⌜ Whole (job-lists (now (points .entry)) (now (triangles .entry)) (now (kept .entry)) (now (table .entry))) q (now (fours2 .exit)) (now (codes2 .exit)) (now (qualities2 .exit)) r ⌝ }
+    requires { ⌜ (job-refusal (job-lists (now points) (now triangles) (now kept) (now inner) (now table)) ≡ 0) × Bound-flags ((job (job-lists (now points) (now triangles) (now kept) (now inner) (now table))) .triangles) (now bound) × (length (now bound) ≡ 4096) × (0 < q) × (q ≤ 1000000) × Whole (job-lists (now points) (now triangles) (now kept) (now inner) (now table)) 1 (now fours) (now codes) (now qualities) m × (length (now fours2) ≡ 7280) × (length (now codes2) ≡ 7280) × (length (now qualities2) ≡ 1820) ⌝ }
+    ensures { λ r. ⌜ Whole (job-lists (now (points .entry)) (now (triangles .entry)) (now (kept .entry)) (now (inner .entry)) (now (table .entry))) q (now (fours2 .exit)) (now (codes2 .exit)) (now (qualities2 .exit)) r ⌝ }
 {
     let mut state = [[0u16; 4096]; 4];
     begin(codes, qualities, m, q, &mut state);
@@ -100,6 +103,7 @@ pub fn reduce(
         points,
         triangles,
         kept,
+        inner,
         table,
         fours,
         codes,
@@ -117,6 +121,7 @@ pub fn prepare(
     points: &[i32],
     triangles: &[u8],
     kept: &[u8],
+    inner: &[u8],
     table: &[i32],
     faces: &[[u16; 4096]; 3],
     fours: &[u8],
@@ -126,14 +131,15 @@ pub fn prepare(
     piercing: &mut [u16; 29120],
     links: &mut [[u16; 7280]; 2],
 )
-    requires { ⌜ Context (job-lists (now points) (now triangles) (now kept) (now table)) (now fours) (now codes) (bound-of (now faces)) m × Boundary-codes (now triangles) (boundary-of (now faces)) × Rows (points-in (now points)) (rows-of (now faces)) × (length (now corners) ≡ 1820) × (length (now piercing) ≡ 29120) ⌝ }
-    ensures { λ _. ⌜ Prepared (job-lists (now (points .entry)) (now (triangles .entry)) (now (kept .entry)) (now (table .entry))) (now (faces .entry)) (now (fours .entry)) (now (codes .entry)) m (now (corners .exit)) (now (piercing .exit)) ⌝ }
+    requires { ⌜ Context (job-lists (now points) (now triangles) (now kept) (now inner) (now table)) (now fours) (now codes) (bound-of (now faces)) m × Boundary-codes (now triangles) (boundary-of (now faces)) × Rows (points-in (now points)) (rows-of (now faces)) × (length (now corners) ≡ 1820) × (length (now piercing) ≡ 29120) ⌝ }
+    ensures { λ _. ⌜ Prepared (job-lists (now (points .entry)) (now (triangles .entry)) (now (kept .entry)) (now (inner .entry)) (now (table .entry))) (now (faces .entry)) (now (fours .entry)) (now (codes .entry)) m (now (corners .exit)) (now (piercing .exit)) ⌝ }
 {
     corner_sets(fours, m, corners);
     piercing_sets(
         points,
         triangles,
         kept,
+        inner,
         table,
         &faces[0],
         fours,
@@ -150,6 +156,7 @@ pub fn try_threshold(
     points: &[i32],
     triangles: &[u8],
     kept: &[u8],
+    inner: &[u8],
     table: &[i32],
     faces: &[[u16; 4096]; 3],
     fours: &[u8],
@@ -163,13 +170,14 @@ pub fn try_threshold(
     q: u32,
     state: &mut [[u16; 4096]; 4],
 ) -> Attempt
-    requires { ⌜ Prepared (job-lists (now points) (now triangles) (now kept) (now table)) (now faces) (now fours) (now codes) m (now corners) (now piercing) × (0 < q) × (q ≤ 1000000) × Whole (job-lists (now points) (now triangles) (now kept) (now table)) q (now fours) (now codes) (now qualities) m × Sized-state (now state) ⌝ }
-    ensures { λ r. ⌜ Attempted (job-lists (now (points .entry)) (now (triangles .entry)) (now (kept .entry)) (now (table .entry))) q (r .found) (now (fours .entry)) (now (codes .entry)) (now (qualities .entry)) m (r .worst) (r .mark) × Sized-state (now (state .exit)) ⌝ }
+    requires { ⌜ Prepared (job-lists (now points) (now triangles) (now kept) (now inner) (now table)) (now faces) (now fours) (now codes) m (now corners) (now piercing) × (0 < q) × (q ≤ 1000000) × Whole (job-lists (now points) (now triangles) (now kept) (now inner) (now table)) q (now fours) (now codes) (now qualities) m × Sized-state (now state) ⌝ }
+    ensures { λ r. ⌜ Attempted (job-lists (now (points .entry)) (now (triangles .entry)) (now (kept .entry)) (now (inner .entry)) (now (table .entry))) q (r .found) (now (fours .entry)) (now (codes .entry)) (now (qualities .entry)) m (r .worst) (r .mark) × Sized-state (now (state .exit)) ⌝ }
 {
     let found = extend_from(
         points,
         triangles,
         kept,
+        inner,
         table,
         faces,
         fours,
@@ -204,6 +212,7 @@ pub fn raise(
     points: &[i32],
     triangles: &[u8],
     kept: &[u8],
+    inner: &[u8],
     table: &[i32],
     faces: &[[u16; 4096]; 3],
     fours: &[u8],
@@ -218,8 +227,8 @@ pub fn raise(
     top: u32,
     state: &mut [[u16; 4096]; 4],
 ) -> Attempt
-    requires { ⌜ Prepared (job-lists (now points) (now triangles) (now kept) (now table)) (now faces) (now fours) (now codes) m (now corners) (now piercing) × Highest (job-lists (now points) (now triangles) (now kept) (now table)) (now fours) (now codes) (now qualities) m (from .worst) top (from .mark) × Sized-state (now state) ⌝ }
-    ensures { λ r. ⌜ Highest (job-lists (now (points .entry)) (now (triangles .entry)) (now (kept .entry)) (now (table .entry))) (now (fours .entry)) (now (codes .entry)) (now (qualities .entry)) m (r .worst) (suc (r .worst)) (r .mark) × Sized-state (now (state .exit)) ⌝ }
+    requires { ⌜ Prepared (job-lists (now points) (now triangles) (now kept) (now inner) (now table)) (now faces) (now fours) (now codes) m (now corners) (now piercing) × Highest (job-lists (now points) (now triangles) (now kept) (now inner) (now table)) (now fours) (now codes) (now qualities) m (from .worst) top (from .mark) × Sized-state (now state) ⌝ }
+    ensures { λ r. ⌜ Highest (job-lists (now (points .entry)) (now (triangles .entry)) (now (kept .entry)) (now (inner .entry)) (now (table .entry))) (now (fours .entry)) (now (codes .entry)) (now (qualities .entry)) m (r .worst) (suc (r .worst)) (r .mark) × Sized-state (now (state .exit)) ⌝ }
 {
     let mut w = from;
     let mut high = top;
@@ -233,6 +242,7 @@ pub fn raise(
             points,
             triangles,
             kept,
+            inner,
             table,
             faces,
             fours,

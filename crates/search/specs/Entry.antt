@@ -18,7 +18,7 @@ or-else a b = cond (eqb a 0) b a
 unfoldable pub in-front : (new old : List ℕ) → List ℕ
 in-front new old = new ++ drop (length new) old
 
--- the search: 2 to 13, 14, 15
+-- the search: 2 to 13, 22 and 23, 14, 15
 unfoldable pub says : (number count worst : ℕ) → Found → Type 0
 says n c w r = (r .number ≡ n) × (r .count ≡ c) × (r .worst ≡ w)
 

@@ -1,4 +1,4 @@
-// The search's entry: refuses 2 to 13, then 14, then 15; otherwise writes the best filling's bytes at the start of the lent buffer.
+// The search's entry: refuses 2 to 13, 22 and 23, then 14, then 15; otherwise writes the best filling's bytes at the start of the lent buffer.
 ghost use mathlib.Core.Path.{_≡_};
 ghost use Prim.Native.Nat.{_*_, _/_, _≤_, _<_};
 ghost use lib.ListN.{length};
@@ -65,6 +65,7 @@ pub(crate) fn finish(
     points: &[i32],
     triangles: &[u8],
     kept: &[u8],
+    inner: &[u8],
     table: &[i32],
     faces: &[[u16; 4096]; 3],
     fours: &[u8],
@@ -80,13 +81,14 @@ pub(crate) fn finish(
     state: &mut [[u16; 4096]; 4],
     answer: &mut [u8],
 ) -> Found
-    requires { ⌜ Prepared (job-lists (now points) (now triangles) (now kept) (now table)) (now faces) (now fours) (now codes) m (now corners) (now piercing) × Highest (job-lists (now points) (now triangles) (now kept) (now table)) (now fours) (now codes) (now qualities) m (from .worst) top (from .mark) × Sized-state (now state) × (7280 ≤ length (now answer)) ⌝ }
-    ensures { λ r. ⌜ Searched (job (job-lists (now (points .entry)) (now (triangles .entry)) (now (kept .entry)) (now (table .entry)))) r (now (answer .entry)) (now (answer .exit)) ⌝ }
+    requires { ⌜ Prepared (job-lists (now points) (now triangles) (now kept) (now inner) (now table)) (now faces) (now fours) (now codes) m (now corners) (now piercing) × Highest (job-lists (now points) (now triangles) (now kept) (now inner) (now table)) (now fours) (now codes) (now qualities) m (from .worst) top (from .mark) × Sized-state (now state) × (7280 ≤ length (now answer)) ⌝ }
+    ensures { λ r. ⌜ Searched (job (job-lists (now (points .entry)) (now (triangles .entry)) (now (kept .entry)) (now (inner .entry)) (now (table .entry)))) r (now (answer .entry)) (now (answer .exit)) ⌝ }
 {
     let w = raise(
         points,
         triangles,
         kept,
+        inner,
         table,
         faces,
         fours,
@@ -105,6 +107,7 @@ pub(crate) fn finish(
         points,
         triangles,
         kept,
+        inner,
         table,
         faces,
         fours,
@@ -132,6 +135,7 @@ pub(crate) fn search_prepared(
     points: &[i32],
     triangles: &[u8],
     kept: &[u8],
+    inner: &[u8],
     table: &[i32],
     faces: &[[u16; 4096]; 3],
     fours: &[u8],
@@ -146,14 +150,15 @@ pub(crate) fn search_prepared(
     top: u32,
     answer: &mut [u8],
 ) -> Found
-    requires { ⌜ Prepared (job-lists (now points) (now triangles) (now kept) (now table)) (now faces) (now fours) (now codes) m (now corners) (now piercing) × Whole (job-lists (now points) (now triangles) (now kept) (now table)) low (now fours) (now codes) (now qualities) m × (0 < low) × (low ≤ 1000000) × (top ≤ 1000001) × Under (job (job-lists (now points) (now triangles) (now kept) (now table))) top × (7280 ≤ length (now answer)) ⌝ }
-    ensures { λ r. ⌜ Searched-from (job (job-lists (now (points .entry)) (now (triangles .entry)) (now (kept .entry)) (now (table .entry)))) low r (now (answer .entry)) (now (answer .exit)) ⌝ }
+    requires { ⌜ Prepared (job-lists (now points) (now triangles) (now kept) (now inner) (now table)) (now faces) (now fours) (now codes) m (now corners) (now piercing) × Whole (job-lists (now points) (now triangles) (now kept) (now inner) (now table)) low (now fours) (now codes) (now qualities) m × (0 < low) × (low ≤ 1000000) × (top ≤ 1000001) × Under (job (job-lists (now points) (now triangles) (now kept) (now inner) (now table))) top × (7280 ≤ length (now answer)) ⌝ }
+    ensures { λ r. ⌜ Searched-from (job (job-lists (now (points .entry)) (now (triangles .entry)) (now (kept .entry)) (now (inner .entry)) (now (table .entry)))) low r (now (answer .entry)) (now (answer .exit)) ⌝ }
 {
     let mut state = [[0u16; 4096]; 4];
     let a = try_threshold(
         points,
         triangles,
         kept,
+        inner,
         table,
         faces,
         fours,
@@ -178,6 +183,7 @@ pub(crate) fn search_prepared(
         points,
         triangles,
         kept,
+        inner,
         table,
         faces,
         fours,
@@ -200,6 +206,7 @@ pub(crate) fn search_pool(
     points: &[i32],
     triangles: &[u8],
     kept: &[u8],
+    inner: &[u8],
     table: &[i32],
     faces: &[[u16; 4096]; 3],
     fours: &[u8; 7280],
@@ -211,8 +218,8 @@ pub(crate) fn search_pool(
     top: u32,
     answer: &mut [u8],
 ) -> Found
-    requires { ⌜ (job-refusal (job-lists (now points) (now triangles) (now kept) (now table)) ≡ 0) × Boundary-codes (now triangles) (boundary-of (now faces)) × Bound-flags ((job (job-lists (now points) (now triangles) (now kept) (now table))) .triangles) (bound-of (now faces)) × (length (bound-of (now faces)) ≡ 4096) × Rows (points-in (now points)) (rows-of (now faces)) × Whole (job-lists (now points) (now triangles) (now kept) (now table)) low (now fours) (now codes) (now qualities) m × (0 < low) × (low ≤ 1000000) × (top ≤ 1000001) × Under (job (job-lists (now points) (now triangles) (now kept) (now table))) top × (7280 ≤ length (now answer)) ⌝ }
-    ensures { λ r. ⌜ Searched-from (job (job-lists (now (points .entry)) (now (triangles .entry)) (now (kept .entry)) (now (table .entry)))) low r (now (answer .entry)) (now (answer .exit)) ⌝ }
+    requires { ⌜ (job-refusal (job-lists (now points) (now triangles) (now kept) (now inner) (now table)) ≡ 0) × Boundary-codes (now triangles) (boundary-of (now faces)) × Bound-flags ((job (job-lists (now points) (now triangles) (now kept) (now inner) (now table))) .triangles) (bound-of (now faces)) × (length (bound-of (now faces)) ≡ 4096) × Rows (points-in (now points)) (rows-of (now faces)) × Whole (job-lists (now points) (now triangles) (now kept) (now inner) (now table)) low (now fours) (now codes) (now qualities) m × (0 < low) × (low ≤ 1000000) × (top ≤ 1000001) × Under (job (job-lists (now points) (now triangles) (now kept) (now inner) (now table))) top × (7280 ≤ length (now answer)) ⌝ }
+    ensures { λ r. ⌜ Searched-from (job (job-lists (now (points .entry)) (now (triangles .entry)) (now (kept .entry)) (now (inner .entry)) (now (table .entry)))) low r (now (answer .entry)) (now (answer .exit)) ⌝ }
 {
     let mut corners = [0u16; 1820];
     let mut piercing = [0u16; 29120];
@@ -221,6 +228,7 @@ pub(crate) fn search_pool(
         points,
         triangles,
         kept,
+        inner,
         table,
         faces,
         fours,
@@ -234,6 +242,7 @@ pub(crate) fn search_pool(
         points,
         triangles,
         kept,
+        inner,
         table,
         faces,
         fours,
@@ -255,6 +264,7 @@ pub(crate) fn search_from(
     points: &[i32],
     triangles: &[u8],
     kept: &[u8],
+    inner: &[u8],
     table: &[i32],
     faces: &[[u16; 4096]; 3],
     fours: &[u8; 7280],
@@ -267,8 +277,8 @@ pub(crate) fn search_from(
     top: u32,
     answer: &mut [u8],
 ) -> Found
-    requires { ⌜ (job-refusal (job-lists (now points) (now triangles) (now kept) (now table)) ≡ 0) × Boundary-codes (now triangles) (boundary-of (now faces)) × Bound-flags ((job (job-lists (now points) (now triangles) (now kept) (now table))) .triangles) (bound-of (now faces)) × (length (bound-of (now faces)) ≡ 4096) × Rows (points-in (now points)) (rows-of (now faces)) × Whole (job-lists (now points) (now triangles) (now kept) (now table)) 1 (now fours) (now codes) (now qualities) m × (0 < low) × (low ≤ 1000000) × (top ≤ 1000001) × Under (job (job-lists (now points) (now triangles) (now kept) (now table))) top × (7280 ≤ length (now answer)) ⌝ }
-    ensures { λ r. ⌜ Searched-from (job (job-lists (now (points .entry)) (now (triangles .entry)) (now (kept .entry)) (now (table .entry)))) low r (now (answer .entry)) (now (answer .exit)) ⌝ }
+    requires { ⌜ (job-refusal (job-lists (now points) (now triangles) (now kept) (now inner) (now table)) ≡ 0) × Boundary-codes (now triangles) (boundary-of (now faces)) × Bound-flags ((job (job-lists (now points) (now triangles) (now kept) (now inner) (now table))) .triangles) (bound-of (now faces)) × (length (bound-of (now faces)) ≡ 4096) × Rows (points-in (now points)) (rows-of (now faces)) × Whole (job-lists (now points) (now triangles) (now kept) (now inner) (now table)) 1 (now fours) (now codes) (now qualities) m × (0 < low) × (low ≤ 1000000) × (top ≤ 1000001) × Under (job (job-lists (now points) (now triangles) (now kept) (now inner) (now table))) top × (7280 ≤ length (now answer)) ⌝ }
+    ensures { λ r. ⌜ Searched-from (job (job-lists (now (points .entry)) (now (triangles .entry)) (now (kept .entry)) (now (inner .entry)) (now (table .entry)))) low r (now (answer .entry)) (now (answer .exit)) ⌝ }
 {
     let mut fours2 = [0u8; 7280];
     let mut codes2 = [0u16; 7280];
@@ -277,6 +287,7 @@ pub(crate) fn search_from(
         points,
         triangles,
         kept,
+        inner,
         table,
         &faces[2],
         links,
@@ -293,6 +304,7 @@ pub(crate) fn search_from(
         points,
         triangles,
         kept,
+        inner,
         table,
         faces,
         &fours2,
@@ -311,6 +323,7 @@ pub(crate) fn search_candidates(
     points: &[i32],
     triangles: &[u8],
     kept: &[u8],
+    inner: &[u8],
     table: &[i32],
     faces: &[[u16; 4096]; 3],
     fours: &[u8; 7280],
@@ -319,10 +332,10 @@ pub(crate) fn search_candidates(
     m: usize,
     answer: &mut [u8],
 ) -> Found
-    requires { ⌜ (job-refusal (job-lists (now points) (now triangles) (now kept) (now table)) ≡ 0) × Boundary-codes (now triangles) (boundary-of (now faces)) × Bound-flags ((job (job-lists (now points) (now triangles) (now kept) (now table))) .triangles) (bound-of (now faces)) × (length (bound-of (now faces)) ≡ 4096) × Rows (points-in (now points)) (rows-of (now faces)) × Whole (job-lists (now points) (now triangles) (now kept) (now table)) 1 (now fours) (now codes) (now qualities) m × (7280 ≤ length (now answer)) ⌝ }
-    ensures { λ r. ⌜ Searched (job (job-lists (now (points .entry)) (now (triangles .entry)) (now (kept .entry)) (now (table .entry)))) r (now (answer .entry)) (now (answer .exit)) ⌝ }
+    requires { ⌜ (job-refusal (job-lists (now points) (now triangles) (now kept) (now inner) (now table)) ≡ 0) × Boundary-codes (now triangles) (boundary-of (now faces)) × Bound-flags ((job (job-lists (now points) (now triangles) (now kept) (now inner) (now table))) .triangles) (bound-of (now faces)) × (length (bound-of (now faces)) ≡ 4096) × Rows (points-in (now points)) (rows-of (now faces)) × Whole (job-lists (now points) (now triangles) (now kept) (now inner) (now table)) 1 (now fours) (now codes) (now qualities) m × (7280 ≤ length (now answer)) ⌝ }
+    ensures { λ r. ⌜ Searched (job (job-lists (now (points .entry)) (now (triangles .entry)) (now (kept .entry)) (now (inner .entry)) (now (table .entry)))) r (now (answer .entry)) (now (answer .exit)) ⌝ }
 {
-    let watch = anything_loose(points.len() / 3, triangles, kept);
+    let watch = anything_loose(points.len() / 3, triangles, kept, inner);
     let mut links = [[0u16; 7280]; 2];
     chain(codes, m, &mut links);
     let low = opening(
@@ -338,6 +351,7 @@ pub(crate) fn search_candidates(
         points,
         triangles,
         kept,
+        inner,
         table,
         faces,
         fours,
@@ -360,6 +374,7 @@ pub(crate) fn search_candidates(
         points,
         triangles,
         kept,
+        inner,
         table,
         faces,
         fours,
@@ -379,11 +394,12 @@ pub(crate) fn search_accepted(
     points: &[i32],
     triangles: &[u8],
     kept: &[u8],
+    inner: &[u8],
     table: &[i32],
     answer: &mut [u8],
 ) -> Found
-    requires { ⌜ (job-refusal (job-lists (now points) (now triangles) (now kept) (now table)) ≡ 0) × (7280 ≤ length (now answer)) ⌝ }
-    ensures { λ r. ⌜ Searched (job (job-lists (now (points .entry)) (now (triangles .entry)) (now (kept .entry)) (now (table .entry)))) r (now (answer .entry)) (now (answer .exit)) ⌝ }
+    requires { ⌜ (job-refusal (job-lists (now points) (now triangles) (now kept) (now inner) (now table)) ≡ 0) × (7280 ≤ length (now answer)) ⌝ }
+    ensures { λ r. ⌜ Searched (job (job-lists (now (points .entry)) (now (triangles .entry)) (now (kept .entry)) (now (inner .entry)) (now (table .entry)))) r (now (answer .entry)) (now (answer .exit)) ⌝ }
 {
     let mut rows = [0u16; 4096];
     fill_rows(points, &mut rows);
@@ -399,6 +415,7 @@ pub(crate) fn search_accepted(
         points,
         triangles,
         kept,
+        inner,
         table,
         &rows,
         &bound,
@@ -411,6 +428,7 @@ pub(crate) fn search_accepted(
         points,
         triangles,
         kept,
+        inner,
         table,
         &faces,
         &fours,
@@ -421,9 +439,9 @@ pub(crate) fn search_accepted(
     )
 }
 
-// Whether some point or kept edge may lie off the boundary; nothing rests on it.
-pub(crate) fn anything_loose(n: usize, triangles: &[u8], kept: &[u8]) -> bool {
-    if kept.len() > 0 {
+// Whether some point, kept edge or inner triangle may lie off the boundary; nothing rests on it.
+pub(crate) fn anything_loose(n: usize, triangles: &[u8], kept: &[u8], inner: &[u8]) -> bool {
+    if (kept.len() > 0) | (inner.len() > 0) {
         return true;
     }
     for p in 0..n {
@@ -448,12 +466,13 @@ pub fn search(
     points: &[i32],
     triangles: &[u8],
     kept: &[u8],
+    inner: &[u8],
     table: &[i32],
     answer: &mut [u8],
 ) -> Found
-    ensures { λ r. ⌜ Search-says (job-lists (now (points .entry)) (now (triangles .entry)) (now (kept .entry)) (now (table .entry))) r (now (answer .entry)) (now (answer .exit)) ⌝ }
+    ensures { λ r. ⌜ Search-says (job-lists (now (points .entry)) (now (triangles .entry)) (now (kept .entry)) (now (inner .entry)) (now (table .entry))) r (now (answer .entry)) (now (answer .exit)) ⌝ }
 {
-    let number = check_job(points, triangles, kept, table);
+    let number = check_job(points, triangles, kept, inner, table);
     if number != 0 {
         return Found {
             number,
@@ -468,5 +487,5 @@ pub fn search(
             worst: 0,
         };
     }
-    search_accepted(points, triangles, kept, table, answer)
+    search_accepted(points, triangles, kept, inner, table, answer)
 }

@@ -39,6 +39,7 @@ pub(crate) fn is_refuted(
     points: &[i32],
     triangles: &[u8],
     kept: &[u8],
+    inner: &[u8],
     table: &[i32],
     faces: &[[u16; 4096]; 3],
     fours: &[u8],
@@ -52,14 +53,15 @@ pub(crate) fn is_refuted(
     state: &mut [[u16; 4096]; 4],
     top: usize,
 ) -> bool
-    requires { ⌜ Prepared (job-lists (now points) (now triangles) (now kept) (now table)) (now faces) (now fours) (now codes) m (now corners) (now piercing) × Ready (job (job-lists (now points) (now triangles) (now kept) (now table))) (fours-in m (now fours)) (marks-of (now state)) × In-order m (now codes) (now state) top × (k < m) × (getD (marks-of (now state)) k 0 ≡ 1) ⌝ }
-    ensures { λ r. ⌜ Refuted (job (job-lists (now (points .entry)) (now (triangles .entry)) (now (kept .entry)) (now (table .entry)))) (fours-in m (now (fours .entry))) m k (marks-of (now (state .entry))) (owners-of (now (state .entry))) (held-of (now (state .entry))) (trail-of (now (state .entry))) top r (marks-of (now (state .exit))) (owners-of (now (state .exit))) (held-of (now (state .exit))) (trail-of (now (state .exit))) × (length (now (state .exit)) ≡ 4) ⌝ }
+    requires { ⌜ Prepared (job-lists (now points) (now triangles) (now kept) (now inner) (now table)) (now faces) (now fours) (now codes) m (now corners) (now piercing) × Ready (job (job-lists (now points) (now triangles) (now kept) (now inner) (now table))) (fours-in m (now fours)) (marks-of (now state)) × In-order m (now codes) (now state) top × (k < m) × (getD (marks-of (now state)) k 0 ≡ 1) ⌝ }
+    ensures { λ r. ⌜ Refuted (job (job-lists (now (points .entry)) (now (triangles .entry)) (now (kept .entry)) (now (inner .entry)) (now (table .entry)))) (fours-in m (now (fours .entry))) m k (marks-of (now (state .entry))) (owners-of (now (state .entry))) (held-of (now (state .entry))) (trail-of (now (state .entry))) top r (marks-of (now (state .exit))) (owners-of (now (state .exit))) (held-of (now (state .exit))) (trail-of (now (state .exit))) × (length (now (state .exit)) ≡ 4) ⌝ }
 {
     let end = place(codes, m, fours, corners, piercing, k, state, top);
     let z = propagate(
         points,
         triangles,
         kept,
+        inner,
         table,
         faces,
         fours,
@@ -84,6 +86,7 @@ pub fn shave(
     points: &[i32],
     triangles: &[u8],
     kept: &[u8],
+    inner: &[u8],
     table: &[i32],
     faces: &[[u16; 4096]; 3],
     fours: &[u8],
@@ -96,8 +99,8 @@ pub fn shave(
     state: &mut [[u16; 4096]; 4],
     top: usize,
 ) -> usize
-    requires { ⌜ Prepared (job-lists (now points) (now triangles) (now kept) (now table)) (now faces) (now fours) (now codes) m (now corners) (now piercing) × Ready (job (job-lists (now points) (now triangles) (now kept) (now table))) (fours-in m (now fours)) (marks-of (now state)) × In-order m (now codes) (now state) top ⌝ }
-    ensures { λ e. ⌜ Shaved (job (job-lists (now (points .entry)) (now (triangles .entry)) (now (kept .entry)) (now (table .entry)))) (fours-in m (now (fours .entry))) m (now (codes .entry)) (marks-of (now (state .entry))) (held-of (now (state .entry))) (trail-of (now (state .entry))) top (marks-of (now (state .exit))) (owners-of (now (state .exit))) (held-of (now (state .exit))) (trail-of (now (state .exit))) e × (length (now (state .exit)) ≡ 4) ⌝ }
+    requires { ⌜ Prepared (job-lists (now points) (now triangles) (now kept) (now inner) (now table)) (now faces) (now fours) (now codes) m (now corners) (now piercing) × Ready (job (job-lists (now points) (now triangles) (now kept) (now inner) (now table))) (fours-in m (now fours)) (marks-of (now state)) × In-order m (now codes) (now state) top ⌝ }
+    ensures { λ e. ⌜ Shaved (job (job-lists (now (points .entry)) (now (triangles .entry)) (now (kept .entry)) (now (inner .entry)) (now (table .entry)))) (fours-in m (now (fours .entry))) m (now (codes .entry)) (marks-of (now (state .entry))) (held-of (now (state .entry))) (trail-of (now (state .entry))) top (marks-of (now (state .exit))) (owners-of (now (state .exit))) (held-of (now (state .exit))) (trail-of (now (state .exit))) e × (length (now (state .exit)) ≡ 4) ⌝ }
 {
     let mut end = top;
     for k in 0..m {
@@ -106,6 +109,7 @@ pub fn shave(
                 points,
                 triangles,
                 kept,
+                inner,
                 table,
                 faces,
                 fours,

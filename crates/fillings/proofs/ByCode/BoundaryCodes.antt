@@ -12,12 +12,12 @@ use Rattle.geometry.specs.Space.{four, points-in}
 use Rattle.laws.specs.Laws.{Tri, tri, fours-in}
 use Rattle.laws.specs.Lists.{Lists}
 use Rattle.laws.specs.Check.{job, job-refusal, tris-in, edges-in, edge-bad}
-use Rattle.laws.specs.inner.Listed.{tri-at}
+use Rattle.laws.specs.inner.Listed.{All-within, tri-at}
 use Rattle.laws.specs.inner.Members.{Any, here, there}
 use Rattle.laws.proofs.Basics.Tests.{or-false}
 use Rattle.laws.proofs.Basics.Lists.{each-at-member}
 use Rattle.laws.proofs.Choice.Conditions.{accepted}
-use Rattle.laws.proofs.Checker.Refusal.{points-few, triangles-few, all-within}
+use Rattle.laws.proofs.Checker.Refusal.{points-few, triangles-few, all-present, all-within}
 use Rattle.laws.proofs.Order.Sorted.{law-1-well-formed, increasing}
 use Rattle.laws.specs.inner.FaceCodes.{face-code}
 use Rattle.laws.proofs.Order.Bytes.{fours-in-nth}
@@ -33,7 +33,7 @@ use Rattle.fillings.proofs.ByCode.Context.{context-codes, context-count
 tri-equal : {a b c d e f : ℕ} → a ≡ d → b ≡ e → c ≡ f → tri a b c ≡ tri d e f
 tri-equal p q r = cc
 
-tri-at-drop : (ts : List ℕ) (i : ℕ) → tri-at (drop 3 ts) i ≡ tri-at ts (suc i)
+pub tri-at-drop : (ts : List ℕ) (i : ℕ) → tri-at (drop 3 ts) i ≡ tri-at ts (suc i)
 tri-at-drop ts i =
     tri-equal (getD-drop 3 ts (i * 3) 0 ∙ ap (λ (n : ℕ). getD ts n 0) (omega arith)) (getD-drop 3 ts (i * 3 + 1) 0 ∙ ap (λ (n : ℕ). getD ts n 0) (omega arith))
     (getD-drop 3 ts (i * 3 + 2) 0 ∙ ap (λ (n : ℕ). getD ts n 0) (omega arith))
@@ -135,6 +135,14 @@ module _ (L : Lists) (ok : job-refusal L ≡ 0) where
   accepted-triangles-below-16 =
       let w = all-within (length (points-in (L .points))) (L .triangles) accepted-points-few (accepted L ok .tris-good) in
       record { long = omega arith; each = by-three 16 (length (L .triangles) / 3) (L .triangles) (λ k l. let t = w k l in (t .a, (t .b, t .c))) }
+
+  pub accepted-inner-present : All-within (length (points-in (L .points))) (L .inner)
+  unfolding job
+  accepted-inner-present = all-present (length (points-in (L .points))) (L .inner) (accepted L ok .inner-good)
+
+  pub accepted-inner-within : All-within 16 (L .inner)
+  unfolding job
+  accepted-inner-within = all-within (length (points-in (L .points))) (L .inner) accepted-points-few (accepted L ok .inner-good)
 
   pub accepted-kept-present : All-below (length (points-in (L .points))) (length (L .kept) / 2 * 2) (L .kept)
   unfolding job

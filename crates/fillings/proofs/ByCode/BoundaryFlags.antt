@@ -3,20 +3,23 @@ use mathlib.Core.Path.{_≡_, refl, sym, ap, _∙_}
 use mathlib.Core.Bool.{Bool, true, false, _||_}
 use mathlib.Core.Logic.{_⊎_, inl, inr}
 use mathlib.Core.List.{List}
-use Prim.Native.Nat.{ℕ, _<_}
+use Prim.Native.Nat.{ℕ, _<_, _≤_}
 use borrow.Author.Tests.{ltb-true, lt-ltb}
 use lib.Dec.{ltb}
-use lib.ListN.{getD}
+use lib.ListN.{length, getD}
+use Rattle.geometry.specs.Space.{V3}
 use Rattle.geometry.specs.declared.tetrahedron.Four.{Four}
-use Rattle.laws.specs.Laws.{Tri, tri, reversed, faces, has}
+use Rattle.laws.specs.Laws.{Tri, tri, reversed, faces, all-faces, has}
 use Rattle.laws.proofs.Basics.Tests.{contradiction, true-or-false}
 use Rattle.laws.proofs.Basics.Lists.{Each, none, more, Witness, find, any-of-member}
 use Rattle.laws.proofs.Faces.Triangles.{back, reversed-back, has-true, has-of}
+use Rattle.laws.proofs.Order.Sorted.{Well-formed}
 use Rattle.laws.specs.inner.FaceCodes.{face-code, flip-code, Proper}
 use Rattle.fillings.specs.Part.{reverses}
-use Rattle.fillings.specs.Codes.{Bound, Bound-flags}
+use Rattle.fillings.specs.Marks.{marked}
+use Rattle.fillings.specs.Codes.{Face-table, Owner-flags, Bound, Bound-flags}
 use Rattle.laws.proofs.Faces.FaceCodes.{face-code-back}
-use Rattle.fillings.proofs.ByCode.FaceTable.{code-has, has-code}
+use Rattle.fillings.proofs.ByCode.FaceTable.{code-has, has-code, has-owner, owner-has}
 
 pub proper-back : {t : Tri} → Proper t → Proper (back t)
 proper-back p = record { ab = p .ac; ac = p .ab; bc = λ e. p .bc (sym e); a-small = p .a-small; b-small = p .c-small; c-small = p .b-small }
@@ -29,6 +32,14 @@ same-flag false n f g = go (true-or-false (ltb 0 n))
     go : (ltb 0 n ≡ true) ⊎ (ltb 0 n ≡ false) → ltb 0 n ≡ false
     go (inl e) = contradiction (g (ltb-true 0 n e)) refl
     go (inr e) = e
+
+-- the flag of a face is whether a candidate with the mark has it
+pub owner-flag-is :
+    {n v : ℕ} {ps : List V3} {cs : List Four} {table ms flags : List ℕ} → n ≤ 16 → Each (Well-formed n) cs → Face-table ps cs table →
+    Owner-flags (length cs) table ms v flags → (x : Tri) → Proper x → ltb 0 (getD flags (face-code x) 0) ≡ has x (all-faces ps (marked v cs ms))
+owner-flag-is {v = v} {ps} {cs} {ms = ms} {flags} small good ft of x p =
+    same-flag (has x (all-faces ps (marked v cs ms))) (getD flags (face-code x) 0) (λ h. of .no (face-code x) (has-owner small good ft x v ms h))
+    (λ h. owner-has small good ft p (of .yes (face-code x) h))
 
 module _ {T : List Tri} {bnd : List ℕ} (proper : Each Proper T) (bf : Bound-flags T bnd) where
   pub bound-flag-is : (x : Tri) → Proper x → ltb 0 (getD bnd (face-code x) 0) ≡ has x T

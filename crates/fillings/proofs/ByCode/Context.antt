@@ -10,7 +10,7 @@ use lib.Dec.{leb, eqb}
 use lib.ListN.{length, getD, set}
 use Rattle.geometry.specs.Space.{turned}
 use Rattle.geometry.specs.declared.tetrahedron.Four.{Four}
-use Rattle.laws.specs.Laws.{faces, all-faces, has, law-5, law-6, law-7, fours-in}
+use Rattle.laws.specs.Laws.{faces, all-faces, has, law-5, law-6, law-7, law-8, fours-in}
 use Rattle.laws.specs.Lists.{Lists}
 use Rattle.laws.specs.Check.{job}
 use Rattle.laws.proofs.Basics.Tests.{and-true, true-or-false}
@@ -24,7 +24,7 @@ use Rattle.fillings.specs.Marks.{nth, marked, live, Fills, Placed, Reduc
 use Rattle.fillings.specs.Codes.{Owns, Owner-flags, open-code}
 use Rattle.fillings.specs.Steps.{Context, Ready, Open-at, Propagates}
 use Rattle.fillings.proofs.Parts.Boundary.{Boundary, boundary}
-use Rattle.fillings.proofs.Parts.Coverage.{law-6-true, law-7-true}
+use Rattle.fillings.proofs.Parts.Coverage.{law-6-true, law-7-true, law-8-true}
 use Rattle.fillings.proofs.ByNumber.Numbers.{pool-sorted}
 use Rattle.fillings.proofs.ByNumber.Setting.{cornered, placed-falls, placed-fit}
 use Rattle.fillings.proofs.ByNumber.Reduction.{found-marks, none-closed, none-face, reduced-drop, reduced-falls, reduced-fit, reduced-set, reduced-trans}
@@ -90,7 +90,7 @@ module _ {L : Lists} {fours codes bound : List ℕ} {m : ℕ} (x : Context L fou
       absent k l a (inr h) = h
 
   -- ---- pruning and choosing
-  context-good : Each (Well-formed (length (job L .points))) (fours-in m fours)
+  pub context-good : Each (Well-formed (length (job L .points))) (fours-in m fours)
   context-good = law-1-well-formed (length (job L .points)) (fours-in m fours) (x .pool .order)
 
   context-proper : Each Proper (job L .triangles)
@@ -156,13 +156,13 @@ module _ {L : Lists} {fours codes bound : List ℕ} {m : ℕ} (x : Context L fou
         opens = λ e f. open-at (job L) ns context-small context-good (x .faces) context-proper (own-moved d o) (x .bounds) c h;
       }
 
-  -- nothing open: laws 5 to 7 decide
+  -- nothing open: laws 5 to 8 decide
   pub propagates-covered :
       {ms ns own : List ℕ} {c : ℕ} → Ready (job L) (fours-in m fours) ms → Reduced (job L) (fours-in m fours) ms ns → Owner-flags m codes ms 2 own →
       ((c : ℕ) → c < 4096 → open-code own bound c ≡ false) → law-5 (job L) (marked 2 (fours-in m fours) ns) ≡ true →
-      (law-6 (job L) (marked 2 (fours-in m fours) ns) && law-7 (job L) (marked 2 (fours-in m fours) ns)) ≡ true →
+      (law-6 (job L) (marked 2 (fours-in m fours) ns) && law-7 (job L) (marked 2 (fours-in m fours) ns)) ≡ true → law-8 (job L) (marked 2 (fours-in m fours) ns) ≡ true →
       Propagates (job L) (fours-in m fours) ms 1 c ns
-  propagates-covered {ms} {ns} {own} {c} r d o h q l =
+  propagates-covered {ms} {ns} {own} {c} r d o h q l i =
       let S = marked 2 (fours-in m fours) ns in
       let p = and-true (law-6 (job L) S) (law-7 (job L) S) l in
       record {
@@ -170,13 +170,14 @@ module _ {L : Lists} {fours codes bound : List ℕ} {m : ℕ} (x : Context L fou
         hopeless = λ e. absurd (omega arith);
         done = λ e.
             found-marks ns context-sorted (reduced-fit d (r .fit))
-            (none-open (job L) ns context-small context-good (x .faces) context-proper (own-moved d o) (x .bounds) h) q (law-6-true (job L) S (p .0)) (law-7-true (job L) S (p .1));
+            (none-open (job L) ns context-small context-good (x .faces) context-proper (own-moved d o) (x .bounds) h) q (law-6-true (job L) S (p .0)) (law-7-true (job L) S (p .1)) (law-8-true (job L) S i);
         opens = λ e f. absurd (f refl);
       }
 
   pub propagates-uncovered :
       {ms ns own : List ℕ} {c : ℕ} → Reduced (job L) (fours-in m fours) ms ns → Owner-flags m codes ms 2 own → ((c : ℕ) → c < 4096 → open-code own bound c ≡ false) →
-      (law-5 (job L) (marked 2 (fours-in m fours) ns) && (law-6 (job L) (marked 2 (fours-in m fours) ns) && law-7 (job L) (marked 2 (fours-in m fours) ns))) ≡ false →
+      (law-5 (job L) (marked 2 (fours-in m fours) ns)
+      && ((law-6 (job L) (marked 2 (fours-in m fours) ns) && law-7 (job L) (marked 2 (fours-in m fours) ns)) && law-8 (job L) (marked 2 (fours-in m fours) ns))) ≡ false →
       Propagates (job L) (fours-in m fours) ms 0 c ns
   propagates-uncovered {ms} {ns} {own} {c} d o h l =
       record {

@@ -31,8 +31,8 @@ use Rattle.fillings.proofs.ByNumber.Numbers.{marked-in, nth-member}
 use Rattle.fillings.proofs.ByNumber.Start.{Live}
 use Rattle.fillings.proofs.ByNumber.Reduction.{none-face, useless-unmatched}
 use Rattle.laws.proofs.Faces.FaceCodes.{face-code-back, face-code-below, proper-turn}
-use Rattle.fillings.proofs.ByCode.FaceTable.{has-owner, has-owns, owner-has}
-use Rattle.fillings.proofs.ByCode.BoundaryFlags.{proper-back, same-flag, bound-flag-is}
+use Rattle.fillings.proofs.ByCode.FaceTable.{has-owns}
+use Rattle.fillings.proofs.ByCode.BoundaryFlags.{proper-back, owner-flag-is, bound-flag-is}
 
 -- ---- the number of the reverse
 three-digits : (c : ℕ) → c ≡ c / 256 * 256 + c / 16 % 16 * 16 + c % 16
@@ -77,9 +77,7 @@ module _
     (ft : Face-table (j .points) cs table) (proper : Each Proper (j .triangles)) (of : Owner-flags (length cs) table ms 2 own) (bf : Bound-flags (j .triangles) bnd)
   where
     own-is : (x : Tri) → Proper x → ltb 0 (getD own (face-code x) 0) ≡ has x (all-faces (j .points) (marked 2 cs ms))
-    own-is x p =
-        same-flag (has x (all-faces (j .points) (marked 2 cs ms))) (getD own (face-code x) 0) (λ h. of .no (face-code x) (has-owner small good ft x 2 ms h))
-        (λ h. owner-has small good ft p (of .yes (face-code x) h))
+    own-is = owner-flag-is small good ft of
 
     bound-is : (x : Tri) → Proper x → ltb 0 (getD bnd (face-code x) 0) ≡ has x (j .triangles)
     bound-is = bound-flag-is proper bf

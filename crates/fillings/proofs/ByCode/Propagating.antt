@@ -5,10 +5,10 @@ use mathlib.Core.List.{List}
 use Prim.Native.Nat.{ℕ, _*_, _/_, _≤_, _<_}
 use native.Mathlib.Omega.{arith}
 use lib.ListN.{length}
-use Rattle.laws.specs.Laws.{law-5, law-6, law-7, fours-in}
+use Rattle.laws.specs.Laws.{law-5, law-6, law-7, law-8, fours-in}
 use Rattle.laws.specs.Lists.{Lists}
 use Rattle.laws.specs.Check.{job}
-use Rattle.laws.specs.inner.Listed.{tri-at}
+use Rattle.laws.specs.inner.Listed.{tri-at, All-within}
 use Rattle.laws.proofs.Basics.Lists.{Each, each-at-member}
 use Rattle.laws.proofs.Choice.Conditions.{accepted}
 use Rattle.laws.specs.inner.FaceCodes.{Proper}
@@ -16,12 +16,13 @@ use Rattle.laws.proofs.Faces.ProperFaces.{boundary-proper}
 use Rattle.fillings.specs.Marks.{marked, Reduced}
 use Rattle.fillings.specs.Codes.{Owner-flags}
 use Rattle.fillings.specs.Steps.{Context, Ready, Propagates}
-use Rattle.fillings.specs.Tables.{All-below, All-linked, Behind-set, Goes-on, Links-are, On-boundary, Boundary-codes, Unlinked}
+use Rattle.fillings.specs.Tables.{All-below, All-linked, Behind-set, Goes-on, Links-are, On-boundary, Boundary-codes, Unfaced, Unlinked}
 use Rattle.laws.proofs.Faces.FaceCodes.{face-code-below}
-use Rattle.fillings.proofs.ByCode.BoundaryCodes.{accepted-kept-below-16, accepted-points-few, tri-stands}
+use Rattle.fillings.proofs.ByCode.BoundaryCodes.{accepted-inner-within, accepted-kept-below-16, accepted-points-few, tri-stands}
 use Rattle.fillings.proofs.ByCode.Context.{propagates-covered, propagates-uncovered}
 use Rattle.fillings.proofs.ByNumber.CoverageByNumber.{points-count}
 use Rattle.fillings.proofs.ByCode.CoverByLinks.{linked-covered, unlinked-hopeless, unlinked-uncovered}
+use Rattle.fillings.proofs.ByCode.CoverByFaces.{unfaced-hopeless}
 use Rattle.fillings.proofs.ByCode.Choosing.{nothing-open}
 
 -- ---- the numbers that its tables hold
@@ -31,6 +32,9 @@ module _ {L : Lists} {fours codes bound : List ℕ} {m : ℕ} (x : Context L fou
 
   pub context-kept-below : All-below 16 (length (L .kept) / 2 * 2) (L .kept)
   context-kept-below = accepted-kept-below-16 L (x .accepted)
+
+  pub context-inner-within : All-within 16 (L .inner)
+  context-inner-within = accepted-inner-within L (x .accepted)
 
   pub context-boundary-below : {boundary : List ℕ} → Boundary-codes (L .triangles) boundary → All-below 4096 (length (L .triangles) / 3) boundary
   unfolding job
@@ -64,7 +68,12 @@ module _
           opens = λ e. absurd (e refl);
         }
 
-    -- nothing open: law 5 and the links of the set ones decide
+    -- an inner triangle that none of them has
+    pub propagates-unfaced :
+        {own lv : List ℕ} → Owner-flags m codes ns 2 own → Owner-flags m codes ns 1 lv → Unfaced (L .inner) lv own → Propagates (job L) (fours-in m fours) ms 0 0 ns
+    propagates-unfaced o v u = record { reduced = d; hopeless = λ e. unfaced-hopeless x o v u; done = λ e. absurd (omega arith); opens = λ e. absurd (e refl) }
+
+    -- nothing open: law 5, the links and the faces of the set ones decide
     module _
         {own lv boundary : List ℕ} {k₁ f₁ k f : ℕ} (o : Owner-flags m codes ms 2 own) (a : Goes-on own bound lv (On-boundary boundary (length (L .triangles) / 3)) 1 0 k₁ f₁)
         (b : Goes-on own bound lv (Behind-set codes ns m) k₁ f₁ k f) (y : Boundary-codes (L .triangles) boundary) (e : k ≡ 1)
@@ -73,16 +82,22 @@ module _
             law-5 (job L) (marked 2 (fours-in m fours) ns) ≡ false → Propagates (job L) (fours-in m fours) ms 0 0 ns
         propagates-not-apart n =
             let S = marked 2 (fours-in m fours) ns in
-            propagates-uncovered x d o (nothing-open x d o a b y e) (and-false-left (law-6 (job L) S && law-7 (job L) S) n)
+            propagates-uncovered x d o (nothing-open x d o a b y e) (and-false-left ((law-6 (job L) S && law-7 (job L) S) && law-8 (job L) S) n)
+
+        pub propagates-unheld : law-8 (job L) (marked 2 (fours-in m fours) ns) ≡ false → Propagates (job L) (fours-in m fours) ms 0 0 ns
+        propagates-unheld n =
+            let S = marked 2 (fours-in m fours) ns in
+            propagates-uncovered x d o (nothing-open x d o a b y e) (and-false-right (law-5 (job L) S) (and-false-right (law-6 (job L) S && law-7 (job L) S) n))
 
         module _ {flags : List ℕ} (l : Links-are m fours ns 2 2 flags) where
           pub propagates-linked :
               Ready (job L) (fours-in m fours) ms → law-5 (job L) (marked 2 (fours-in m fours) ns) ≡ true → All-linked (length (L .points) / 3) (L .kept) flags →
-              Propagates (job L) (fours-in m fours) ms 1 0 ns
-          propagates-linked r q u =
-              propagates-covered x r d o (nothing-open x d o a b y e) q (linked-covered L m fours ns (context-points x) (context-kept-below x) l refl refl u)
+              law-8 (job L) (marked 2 (fours-in m fours) ns) ≡ true → Propagates (job L) (fours-in m fours) ms 1 0 ns
+          propagates-linked r q u i =
+              propagates-covered x r d o (nothing-open x d o a b y e) q (linked-covered L m fours ns (context-points x) (context-kept-below x) l refl refl u) i
 
           pub propagates-loose : Unlinked (length (L .points) / 3) (L .kept) flags → Propagates (job L) (fours-in m fours) ms 0 0 ns
           propagates-loose u =
               propagates-uncovered x d o (nothing-open x d o a b y e)
-              (and-false-right (law-5 (job L) (marked 2 (fours-in m fours) ns)) (unlinked-uncovered L m fours ns (context-points x) (context-kept-below x) l refl u))
+              (and-false-right (law-5 (job L) (marked 2 (fours-in m fours) ns))
+              (and-false-left (law-8 (job L) (marked 2 (fours-in m fours) ns)) (unlinked-uncovered L m fours ns (context-points x) (context-kept-below x) l refl u)))

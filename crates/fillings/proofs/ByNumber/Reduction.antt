@@ -1,6 +1,6 @@
 -- Dropping candidates that no filling holds, giving up, and finding, by number. Assumes nothing.
 use mathlib.Core.Path.{_≡_, sym, subst, ap, _∙_}
-use mathlib.Core.Bool.{Bool, true, false, _&&_}
+use mathlib.Core.Bool.{Bool, true, false, _&&_, _||_}
 use mathlib.Core.Logic.{_⊎_, inl, inr}
 use mathlib.Core.List.{List}
 use Prim.Native.Nat.{ℕ, suc, _≤_, _<_}
@@ -9,20 +9,20 @@ use lib.ListN.{length, getD, set}
 use lib.Seq.{getD-set-same, getD-set-other}
 use Rattle.geometry.specs.Space.{turned}
 use Rattle.geometry.specs.declared.tetrahedron.Four.{Four}
-use Rattle.laws.specs.Laws.{Job, Tri, Edge, faces, all-faces, reversed, has, corner-of, is-corner, holds-edge, law-5, law-6, law-7}
+use Rattle.laws.specs.Laws.{Job, Tri, Edge, faces, all-faces, reversed, has, corner-of, is-corner, holds-edge, law-5, law-6, law-7, law-8}
 use Rattle.laws.specs.inner.Members.{Any, In}
 use Rattle.laws.proofs.Basics.Tests.{contradiction, and-of}
-use Rattle.laws.proofs.Basics.Lists.{Each}
+use Rattle.laws.proofs.Basics.Lists.{Each, any-of-member}
 use Rattle.laws.proofs.Faces.Triangles.{back, reversed-back, Has, has-true, has-false}
 use Rattle.laws.proofs.Choice.Conditions.{keeps}
 use Rattle.laws.proofs.Order.Sorted.{Sorted}
 use Rattle.fillings.specs.Part.{open-face, Fit}
 use Rattle.fillings.specs.Marks.{nth, marked, live, Fills, Reduced, Extended, Cornered}
 use Rattle.fillings.proofs.Parts.Boundary.{Boundary}
-use Rattle.fillings.proofs.Parts.Coverage.{On-edge}
+use Rattle.fillings.proofs.Parts.Coverage.{On-edge, Faced, faced-of}
 use Rattle.fillings.proofs.Parts.Extensions.{Useless, Without, closed-only-extension, extension-drop, extension-moved}
 use Rattle.fillings.proofs.Parts.NewOwners.{closed-of-none-open, open-face-of, open-face-true, unmatched-useless}
-use Rattle.fillings.proofs.Parts.Steps.{complete-extension, fit-moved, hopeless-edge, hopeless-face, hopeless-point}
+use Rattle.fillings.proofs.Parts.Steps.{complete-extension, fit-moved, hopeless-edge, hopeless-face, hopeless-inner, hopeless-point}
 use Rattle.fillings.proofs.ByNumber.Numbers.{live-fewer, mark-within, marked-into, marked-number, marked-same, marked-sorted, number-marked}
 use Rattle.fillings.proofs.ByNumber.Start.{Live, each-live}
 
@@ -124,20 +124,29 @@ pub none-edge :
     ((k : ℕ) → k < length cs → getD ms k 0 ≡ 1 → On-edge e (nth cs k) → ⊥) → (F : List Four) → Fills j cs ms F → ⊥
 none-edge cs ms e m n none = hopeless-edge e m n (each-live cs ms (λ g. On-edge e g → ⊥) none)
 
+-- an inner triangle that is a face neither of a set nor of an alive one
+pub none-inner :
+    {j : Job} (cs : List Four) (ms : List ℕ) (t : Tri) → Any (λ (x : Tri). t ≡ x) (j .inner) →
+    (has t (all-faces (j .points) (marked 2 cs ms)) || has (reversed t) (all-faces (j .points) (marked 2 cs ms))) ≡ false →
+    (has t (all-faces (j .points) (marked 1 cs ms)) || has (reversed t) (all-faces (j .points) (marked 1 cs ms))) ≡ false → (F : List Four) → Fills j cs ms F → ⊥
+none-inner {j} cs ms t m n l =
+    hopeless-inner t m (λ w. contradiction (faced-of j t (marked 2 cs ms) w) n) (λ f a o. contradiction (faced-of j t (marked 1 cs ms) (any-of-member a o)) l)
+
 -- nothing open, and two not apart or something left uncovered
 pub none-closed :
     {j : Job} {cs : List Four} (ms : List ℕ) → Boundary (j .triangles) → Sorted cs → ((x : Tri) → open-face (j .triangles) (all-faces (j .points) (marked 2 cs ms)) x ≡ false) →
-    (law-5 j (marked 2 cs ms) && (law-6 j (marked 2 cs ms) && law-7 j (marked 2 cs ms))) ≡ false → (F : List Four) → Fills j cs ms F → ⊥
+    (law-5 j (marked 2 cs ms) && ((law-6 j (marked 2 cs ms) && law-7 j (marked 2 cs ms)) && law-8 j (marked 2 cs ms))) ≡ false → (F : List Four) → Fills j cs ms F → ⊥
 none-closed {j} {cs} ms b s o n F e =
     let k = keeps j F (e .keeps) in
     let d : marked 2 cs ms ≡ F =
     closed-only-extension b (marked-sorted s 2 ms) (closed-of-none-open (j .triangles) (all-faces (j .points) (marked 2 cs ms)) (λ x w. contradiction (open-face-of w) (o x))) e in
-    contradiction (rw d (and-of (k .l5) (and-of (k .l6) (k .l7)))) n
+    contradiction (rw d (and-of (k .l5) (and-of (and-of (k .l6) (k .l7)) (k .l8)))) n
 
 -- ---- nothing open, every two apart, nothing uncovered: the set fours are a filling
 pub found-marks :
     {j : Job} {cs : List Four} (ms : List ℕ) → Sorted cs → Fit j (marked 2 cs ms) (Live cs ms) →
     ((x : Tri) → open-face (j .triangles) (all-faces (j .points) (marked 2 cs ms)) x ≡ false) → law-5 j (marked 2 cs ms) ≡ true →
-    ((p : ℕ) → p < length (j .points) → is-corner p (marked 2 cs ms) ≡ true) → Each (λ e. holds-edge e (marked 2 cs ms) ≡ true) (j .kept) → Fills j cs ms (marked 2 cs ms)
-found-marks {j} {cs} ms s h o l p e =
-    complete-extension h (marked-sorted s 2 ms) (closed-of-none-open (j .triangles) (all-faces (j .points) (marked 2 cs ms)) (λ x w. contradiction (open-face-of w) (o x))) l p e
+    ((p : ℕ) → p < length (j .points) → is-corner p (marked 2 cs ms) ≡ true) → Each (λ e. holds-edge e (marked 2 cs ms) ≡ true) (j .kept) →
+    Each (λ t. Faced j t (marked 2 cs ms)) (j .inner) → Fills j cs ms (marked 2 cs ms)
+found-marks {j} {cs} ms s h o l p e i =
+    complete-extension h (marked-sorted s 2 ms) (closed-of-none-open (j .triangles) (all-faces (j .points) (marked 2 cs ms)) (λ x w. contradiction (open-face-of w) (o x))) l p e i

@@ -19,11 +19,10 @@ use Rattle.laws.proofs.Choice.Conditions.{keeps}
 use Rattle.laws.proofs.Faces.Conforming.{law-4-conforming}
 use Rattle.laws.proofs.Order.Sorted.{Well-formed, law-1-well-formed}
 use Rattle.laws.proofs.Faces.Owners.{owned-face}
-use Rattle.fillings.specs.Pierce.{pierced}
-use Rattle.fillings.specs.Part.{reverses, candidate}
+use Rattle.fillings.specs.Part.{reverses, crossed, candidate}
 use Rattle.fillings.proofs.Parts.Boundary.{Boundary}
 use Rattle.fillings.proofs.Parts.Worst.{each-bounds-worst}
-use Rattle.fillings.proofs.Piercing.KeptEdges.{pierced-never}
+use Rattle.fillings.proofs.Piercing.KeptEdges.{crossed-never}
 
 -- ---- what `candidate` tests
 pub record Candidate (j : Job) (f : Four) : Type 0 where
@@ -32,7 +31,7 @@ pub record Candidate (j : Job) (f : Four) : Type 0 where
   pub worth : 0 < quality (entry j f)
   pub empty : interior-empty (j .points) f ≡ true
   pub inward : (t : Tri) → Has t (faces (turned (j .points) f)) → has (back t) (j .triangles) ≡ false
-  pub unpierced : pierced (j .points) (j .kept) f ≡ false
+  pub uncrossed : crossed j f ≡ false
 
 reverses-false : (ts bs : List Tri) → reverses ts bs ≡ false → (t : Tri) → Has t ts → has (back t) bs ≡ false
 unfolding reverses reversed tri
@@ -49,10 +48,10 @@ unfolding candidate
 candidate-true j f h =
     let ps = j .points in
     let fs = faces (turned ps f) in
-    let p = and-true (rising f && ltb (f .d) (length ps)) ((solid ps f && ltb 0 (quality (entry j f))) && (interior-empty ps f && (not (reverses fs (j .triangles)) && not (pierced ps (j .kept) f)))) h in
-    let q = and-true (solid ps f && ltb 0 (quality (entry j f))) (interior-empty ps f && (not (reverses fs (j .triangles)) && not (pierced ps (j .kept) f))) (p .1) in
-    let r = and-true (interior-empty ps f) (not (reverses fs (j .triangles)) && not (pierced ps (j .kept) f)) (q .1) in
-    let w = and-true (not (reverses fs (j .triangles))) (not (pierced ps (j .kept) f)) (r .1) in
+    let p = and-true (rising f && ltb (f .d) (length ps)) ((solid ps f && ltb 0 (quality (entry j f))) && (interior-empty ps f && (not (reverses fs (j .triangles)) && not (crossed j f)))) h in
+    let q = and-true (solid ps f && ltb 0 (quality (entry j f))) (interior-empty ps f && (not (reverses fs (j .triangles)) && not (crossed j f))) (p .1) in
+    let r = and-true (interior-empty ps f) (not (reverses fs (j .triangles)) && not (crossed j f)) (q .1) in
+    let w = and-true (not (reverses fs (j .triangles))) (not (crossed j f)) (r .1) in
     let g = and-true (rising f) (ltb (f .d) (length ps)) (p .0) in
     let s = and-true (solid ps f) (ltb 0 (quality (entry j f))) (q .0) in
     record {
@@ -61,7 +60,7 @@ candidate-true j f h =
       worth = ltb-true 0 (quality (entry j f)) (s .1);
       empty = r .0;
       inward = reverses-false fs (j .triangles) (not-true (reverses fs (j .triangles)) (w .0));
-      unpierced = not-true (pierced ps (j .kept) f) (w .1);
+      uncrossed = not-true (crossed j f) (w .1);
     }
 
 pub candidate-of : {j : Job} {f : Four} → Candidate j f → candidate j f ≡ true
@@ -69,7 +68,7 @@ unfolding candidate
 candidate-of {j} {f} c =
     and-of (and-of (c .good .up) (lt-ltb (f .d) (length (j .points)) (c .good .below)))
     (and-of (and-of (c .firm) (lt-ltb 0 (quality (entry j f)) (c .worth)))
-    (and-of (c .empty) (and-of (not-of (reverses-false-of (faces (turned (j .points) f)) (j .triangles) (c .inward))) (not-of (c .unpierced)))))
+    (and-of (c .empty) (and-of (not-of (reverses-false-of (faces (turned (j .points) f)) (j .triangles) (c .inward))) (not-of (c .uncrossed)))))
 
 -- ---- laws 2 and 3, four by four
 pub record Worthy (j : Job) (f : Four) : Type 0 where
@@ -110,7 +109,7 @@ member-is-candidate j F b l f m =
       worth = w .worth;
       empty = each-at-member (law-3-each j F (k .l3)) m;
       inward = λ t h. inner t (law-4-conforming j F (k .l4) .matches t (owned-face (j .points) (any-of-member m h)));
-      unpierced = pierced-never j F l f m;
+      uncrossed = crossed-never j F l f m;
     }
   where
     inner : (t : Tri) → (has t (j .triangles) ≡ true) ⊎ (Has (back t) (all-faces (j .points) F) × (has (back t) (j .triangles) ≡ false)) → has (back t) (j .triangles) ≡ false

@@ -22,7 +22,7 @@ use Rattle.fillings.specs.Part.{unshared}
 use Rattle.fillings.proofs.Parts.Faces.{faces-once}
 use Rattle.fillings.proofs.Parts.Candidates.{Candidate, law-2-of, law-3-of}
 use Rattle.fillings.proofs.Parts.Pairs.{unshared-true}
-use Rattle.fillings.proofs.Parts.Coverage.{law-6-of, law-7-of}
+use Rattle.fillings.proofs.Parts.Coverage.{Faced, law-6-of, law-7-of, law-8-of}
 
 -- ---- law 4's part: no face twice
 once-append : (xs : List Tri) {ys : List Tri} → Once xs → Once ys → ((t : Tri) → Has t xs → Has t ys → ⊥) → Once (xs ++ ys)
@@ -50,6 +50,7 @@ pub record Complete (j : Job) (S : List Four) : Type 0 where
   pub disjoint : law-5 j S ≡ true
   pub points : (p : ℕ) → p < length (j .points) → is-corner p S ≡ true
   pub edges : Each (λ e. holds-edge e S ≡ true) (j .kept)
+  pub inners : Each (λ t. Faced j t S) (j .inner)
 
 sorted-distinct : {S : List Four} → Sorted S → Distinct S
 sorted-distinct start = nil
@@ -66,6 +67,7 @@ complete-lawful j S s w =
       l5 = w .disjoint;
       l6 = law-6-of j S (w .points);
       l7 = law-7-of j S (w .edges);
+      l8 = law-8-of j S (w .inners);
     })
   where
     inward : (t : Tri) → Has t (all-faces (j .points) S) → has (back t) (j .triangles) ≡ false

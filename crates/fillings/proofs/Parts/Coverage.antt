@@ -1,16 +1,19 @@
 -- Laws 6 and 7 by members: every point a corner, every kept edge an edge of some four. Assumes nothing.
 use mathlib.Core.Path.{_≡_, refl}
-use mathlib.Core.Bool.{true, _&&_}
+use mathlib.Core.Bool.{true, _&&_, _||_}
 use mathlib.Core.Logic.{_⊎_, inl, inr}
 use mathlib.Core.List.{List, [], _∷_}
 use Prim.Native.Nat.{ℕ, zero, suc, _+_, _<_}
 use native.Mathlib.Omega.{arith}
 use lib.ListN.{length}
 use Rattle.geometry.specs.declared.tetrahedron.Four.{Four}
-use Rattle.laws.specs.Laws.{Job, Edge, law-6, law-7, corner-of, is-corner, corners-from, holds-edge, all-kept}
+use Rattle.geometry.specs.Space.{turned}
+use Rattle.laws.specs.Laws.{Job, Edge, Tri, tri, law-6, law-7, law-8, all-faced, faces, all-faces, has, reversed, corner-of, is-corner, corners-from, holds-edge, all-kept}
 use Rattle.laws.specs.inner.Members.{Any, here, there}
 use Rattle.laws.proofs.Basics.Tests.{contradiction, and-true, and-of, or-true, or-left, or-right}
-use Rattle.laws.proofs.Basics.Lists.{Each, none, more}
+use Rattle.laws.proofs.Basics.Lists.{Each, none, more, find, any-map, any-of-member}
+use Rattle.laws.proofs.Faces.Triangles.{back, Has, has-true, has-of}
+use Rattle.laws.proofs.Faces.Owners.{face-owner, owned-face}
 
 pub is-corner-true : (p : ℕ) (fs : List Four) → is-corner p fs ≡ true → Any (λ f. corner-of p f ≡ true) fs
 unfolding is-corner
@@ -83,3 +86,48 @@ law-7-true j fs h = all-kept-true (j .kept) fs h
 pub law-7-of : (j : Job) (fs : List Four) → Each (λ e. holds-edge e fs ≡ true) (j .kept) → law-7 j fs ≡ true
 unfolding law-7
 law-7-of j fs h = all-kept-of fs h
+
+-- ---- inner triangles: a face of some four, one way or the other
+abbrev pub On-face : Job → Tri → Four → Type 0
+On-face j t f = Has t (faces (turned (j .points) f)) ⊎ Has (back t) (faces (turned (j .points) f))
+
+abbrev pub Faced : Job → Tri → List Four → Type 0
+Faced j t fs = Any (On-face j t) fs
+
+faced-true : (j : Job) (t : Tri) (fs : List Four) → (has t (all-faces (j .points) fs) || has (reversed t) (all-faces (j .points) fs)) ≡ true → Faced j t fs
+unfolding reversed tri
+faced-true j t fs h = go (or-true (has t (all-faces (j .points) fs)) (has (back t) (all-faces (j .points) fs)) h)
+  where
+    go : (has t (all-faces (j .points) fs) ≡ true) ⊎ (has (back t) (all-faces (j .points) fs) ≡ true) → Faced j t fs
+    go (inl e) = any-map (λ f m. inl m) (face-owner (j .points) fs (has-true t (all-faces (j .points) fs) e))
+    go (inr e) = any-map (λ f m. inr m) (face-owner (j .points) fs (has-true (back t) (all-faces (j .points) fs) e))
+
+pub faced-of : (j : Job) (t : Tri) (fs : List Four) → Faced j t fs → (has t (all-faces (j .points) fs) || has (reversed t) (all-faces (j .points) fs)) ≡ true
+unfolding reversed tri
+faced-of j t fs m = let r = find m in go (r .one) (r .so) (λ k. owned-face (j .points) (any-of-member (r .stands) k)) (λ k. owned-face (j .points) (any-of-member (r .stands) k))
+  where
+    go :
+        (f : Four) → On-face j t f → (Has t (faces (turned (j .points) f)) → Has t (all-faces (j .points) fs)) → (Has (back t) (faces (turned (j .points) f)) → Has (back t) (all-faces (j .points) fs)) →
+        (has t (all-faces (j .points) fs) || has (back t) (all-faces (j .points) fs)) ≡ true
+    go f (inl k) x y = or-left (has (back t) (all-faces (j .points) fs)) (has-of (x k))
+    go f (inr k) x y = or-right (has t (all-faces (j .points) fs)) (has-of (y k))
+
+all-faced-true : (j : Job) (ts : List Tri) (fs : List Four) → all-faced ts (all-faces (j .points) fs) ≡ true → Each (λ t. Faced j t fs) ts
+unfolding all-faced
+all-faced-true j [] fs h = none
+all-faced-true j (t ∷ ts) fs h =
+    let all = all-faces (j .points) fs in
+    let p = and-true (has t all || has (reversed t) all) (all-faced ts all) h in more (faced-true j t fs (p .0)) (all-faced-true j ts fs (p .1))
+
+all-faced-of : (j : Job) {ts : List Tri} (fs : List Four) → Each (λ t. Faced j t fs) ts → all-faced ts (all-faces (j .points) fs) ≡ true
+unfolding all-faced
+all-faced-of j fs none = refl
+all-faced-of j fs (more {x = t} p e) = and-of (faced-of j t fs p) (all-faced-of j fs e)
+
+pub law-8-true : (j : Job) (fs : List Four) → law-8 j fs ≡ true → Each (λ t. Faced j t fs) (j .inner)
+unfolding law-8
+law-8-true j fs h = all-faced-true j (j .inner) fs h
+
+pub law-8-of : (j : Job) (fs : List Four) → Each (λ t. Faced j t fs) (j .inner) → law-8 j fs ≡ true
+unfolding law-8
+law-8-of j fs h = all-faced-of j fs h

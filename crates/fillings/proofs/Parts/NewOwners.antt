@@ -18,7 +18,7 @@ use Rattle.laws.proofs.Faces.Conforming.{Conforming, law-4-conforming, Closed}
 use Rattle.laws.proofs.Faces.Owners.{face-owner, owned-face, face-has-one-owner}
 use Rattle.laws.proofs.Faces.OpenFaces.{Open, bound, inner, open-face-owner, closed-or-open}
 use Rattle.fillings.specs.Part.{open-face, Ext}
-use Rattle.fillings.proofs.Parts.Coverage.{On-edge, holds-edge-of, holds-edge-true, is-corner-of, is-corner-true, law-6-true, law-7-true}
+use Rattle.fillings.proofs.Parts.Coverage.{On-edge, holds-edge-of, holds-edge-true, is-corner-of, is-corner-true, law-6-true, law-7-true, On-face, Faced, law-8-true}
 use Rattle.fillings.proofs.Parts.Extensions.{Useless, unset-is-alive}
 
 -- ---- `open-face`
@@ -88,6 +88,12 @@ pub edge-new-owner :
     New-member S A F (On-edge k)
 edge-new-owner {j} {S} {A} {F} e k m n =
     lacking-new-member e (holds-edge-true k F (each-at-member (law-7-true j F (keeps j F (e .keeps) .l7)) m)) (λ h. contradiction (holds-edge-of k h) n)
+
+-- an inner triangle
+pub inner-new-owner :
+    {j : Job} {S : List Four} {A : Four → Type 0} {F : List Four} → Ext j S A F → (t : Tri) → Any (λ (x : Tri). t ≡ x) (j .inner) → (Faced j t S → ⊥) →
+    New-member S A F (On-face j t)
+inner-new-owner {j} {F = F} e t m n = lacking-new-member e (each-at-member (law-8-true j F (keeps j F (e .keeps) .l8)) m) n
 
 -- the reverse of a face that is not open
 pub reverse-new-owner :

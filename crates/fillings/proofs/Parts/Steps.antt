@@ -18,10 +18,10 @@ use Rattle.laws.proofs.Faces.OpenFaces.{Open}
 use Rattle.fillings.specs.Part.{candidate, unshared, Ext, Fit}
 use Rattle.fillings.proofs.Parts.Candidates.{candidate-of, candidate-true}
 use Rattle.fillings.proofs.Parts.Pairs.{unshared-swap}
-use Rattle.fillings.proofs.Parts.Coverage.{On-edge}
+use Rattle.fillings.proofs.Parts.Coverage.{On-edge, On-face, Faced}
 use Rattle.fillings.proofs.Parts.Complete.{Complete, complete-lawful}
 use Rattle.fillings.proofs.Parts.Extensions.{From, Unshared-with}
-use Rattle.fillings.proofs.Parts.NewOwners.{edge-new-owner, open-face-new-owner, point-new-owner}
+use Rattle.fillings.proofs.Parts.NewOwners.{edge-new-owner, inner-new-owner, open-face-new-owner, point-new-owner}
 
 -- ---- what is kept
 pub fit-start : (j : Job) (m : ℕ) → Fit j [] (From j m)
@@ -82,12 +82,17 @@ pub hopeless-edge :
     ((f : Four) → A f → On-edge k f → ⊥) → (F : List Four) → Ext j S A F → ⊥
 hopeless-edge k m n out F e = let r = edge-new-owner e k m n in out (r .one) (r .live) (r .so)
 
+pub hopeless-inner :
+    {j : Job} {S : List Four} {A : Four → Type 0} (t : Tri) → Any (λ (x : Tri). t ≡ x) (j .inner) → (Faced j t S → ⊥) →
+    ((f : Four) → A f → On-face j t f → ⊥) → (F : List Four) → Ext j S A F → ⊥
+hopeless-inner t m n out F e = let r = inner-new-owner e t m n in out (r .one) (r .live) (r .so)
+
 fit-complete :
     {j : Job} {S : List Four} {A : Four → Type 0} → Fit j S A → Closed (j .triangles) (all-faces (j .points) S) → law-5 j S ≡ true →
-    ((p : ℕ) → p < length (j .points) → is-corner p S ≡ true) → Each (λ e. holds-edge e S ≡ true) (j .kept) → Complete j S
-fit-complete {j} h s l p e = record { each = λ f m. candidate-true j f (h .set-each f m); together = h .together; shut = s; disjoint = l; points = p; edges = e }
+    ((p : ℕ) → p < length (j .points) → is-corner p S ≡ true) → Each (λ e. holds-edge e S ≡ true) (j .kept) → Each (λ t. Faced j t S) (j .inner) → Complete j S
+fit-complete {j} h s l p e i = record { each = λ f m. candidate-true j f (h .set-each f m); together = h .together; shut = s; disjoint = l; points = p; edges = e; inners = i }
 
 pub complete-extension :
     {j : Job} {S : List Four} {A : Four → Type 0} → Fit j S A → Sorted S → Closed (j .triangles) (all-faces (j .points) S) → law-5 j S ≡ true →
-    ((p : ℕ) → p < length (j .points) → is-corner p S ≡ true) → Each (λ e. holds-edge e S ≡ true) (j .kept) → Ext j S A S
-complete-extension {j} {S} h d s l p e = record { keeps = complete-lawful j S d (fit-complete h s l p e); holds = λ f m. m; within = λ f m. inl m }
+    ((p : ℕ) → p < length (j .points) → is-corner p S ≡ true) → Each (λ e. holds-edge e S ≡ true) (j .kept) → Each (λ t. Faced j t S) (j .inner) → Ext j S A S
+complete-extension {j} {S} h d s l p e i = record { keeps = complete-lawful j S d (fit-complete h s l p e i); holds = λ f m. m; within = λ f m. inl m }

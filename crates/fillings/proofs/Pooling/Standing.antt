@@ -18,8 +18,7 @@ use Rattle.laws.proofs.Order.Sorted.{Well-formed}
 use Rattle.laws.specs.inner.FaceCodes.{face-code, flip-code, Proper}
 use Rattle.laws.proofs.Faces.ProperFaces.{boundary-proper, faces-proper}
 use Rattle.laws.specs.inner.NextFour.{Ordered}
-use Rattle.fillings.specs.Pierce.{pierced}
-use Rattle.fillings.specs.Part.{reverses, candidate}
+use Rattle.fillings.specs.Part.{reverses, crossed, candidate}
 use Rattle.fillings.specs.Codes.{Bound-flags}
 use Rattle.fillings.proofs.ByCode.BoundaryFlags.{reverses-by-flags}
 use Rattle.fillings.proofs.ByCode.BoundaryCodes.{accepted-points-few}
@@ -89,7 +88,7 @@ module _ {L : Lists} {bnd : List ℕ} {f : Four} (w : Ground L bnd f) where
   backs = reverses (faces (turned P f)) (J .triangles)
 
   abbrev cut : Bool
-  cut = pierced P (J .kept) f
+  cut = crossed J f
 
   pub flat-cannot : solid P f ≡ false → false ≡ candidate J f
   unfolding candidate job
@@ -103,10 +102,10 @@ module _ {L : Lists} {bnd : List ℕ} {f : Four} (w : Ground L bnd f) where
   unfolding candidate job
   crowded-cannot h = by-third in-order (solid P f && of-worth) empty (not backs && not cut) h
 
-  pub piercing-decides :
+  pub crossing-decides :
       {r v : Bool} → solid P f ≡ true → 0 < quality (entry J f) → backs ≡ r → r ≡ false → empty ≡ true → v ≡ cut → not v ≡ candidate J f
   unfolding candidate job
-  piercing-decides s q d b e k =
+  crossing-decides s q d b e k =
       ap not k ∙ by-fifth in-order (solid P f && of-worth) empty backs cut (and-of (good .up) (lt-ltb (f .d) (length P) (good .below)))
       (and-of s (lt-ltb 0 (quality (entry J f)) q)) e (d ∙ b)
 

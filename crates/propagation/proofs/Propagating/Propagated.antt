@@ -10,11 +10,12 @@ use Rattle.laws.specs.Check.{job}
 use Rattle.fillings.specs.Marks.{Reduced, All-apart}
 use Rattle.fillings.specs.Codes.{Owner-flags}
 use Rattle.fillings.specs.Steps.{Context, Ready, Propagates}
-use Rattle.fillings.specs.Tables.{All-linked, Behind-set, Goes-on, Links-are, On-boundary, Boundary-codes, Unlinked}
+use Rattle.fillings.specs.Tables.{All-faced, All-linked, Behind-set, Goes-on, Links-are, On-boundary, Boundary-codes, Unfaced, Unlinked}
 use Rattle.fillings.proofs.ByNumber.Reduction.{reduced-refl, reduced-trans}
 use Rattle.fillings.proofs.ByCode.Context.{ready-reduced}
 use Rattle.fillings.proofs.ByCode.Choosing.{propagates-chosen}
-use Rattle.fillings.proofs.ByCode.Propagating.{propagates-unlinked, propagates-linked, propagates-loose, propagates-not-apart}
+use Rattle.fillings.proofs.ByCode.CoverByFaces.{faced-kept, unfaced-broken}
+use Rattle.fillings.proofs.ByCode.Propagating.{propagates-unlinked, propagates-unfaced, propagates-linked, propagates-loose, propagates-unheld, propagates-not-apart}
 use Rattle.trail.specs.Counts.{Counts}
 use Rattle.trail.proofs.Owners.{counts-flags}
 use Rattle.trail.proofs.Coding.{context-coded}
@@ -32,6 +33,11 @@ module _ {L : Lists} {fours codes bound : List ℕ} {m : ℕ} (x : Context L fou
   pub assessed-unlinked : {flags : List ℕ} → Links-are m fours ms 1 2 flags → Unlinked (length (L .points) / 3) (L .kept) flags → Propagates (job L) (fours-in m fours) ms 0 0 ms
   assessed-unlinked l u = propagates-unlinked x same l u
 
+  -- an inner triangle that can no longer be a face
+  pub assessed-unfaced :
+      {owners held : List ℕ} → Counts 1 m codes ms owners → Counts 2 m codes ms held → Unfaced (L .inner) owners held → Propagates (job L) (fours-in m fours) ms 0 0 ms
+  assessed-unfaced o h u = propagates-unfaced x same (counts-flags (context-coded x) h) (counts-flags (context-coded x) o) u
+
   module _
       {held owners boundary : List ℕ} {k₁ f₁ k f : ℕ} (h : Counts 2 m codes ms held) (a : Goes-on held bound owners (On-boundary boundary (length (L .triangles) / 3)) 1 0 k₁ f₁)
       (b : Goes-on held bound owners (Behind-set codes ms m) k₁ f₁ k f)
@@ -48,14 +54,17 @@ module _ {L : Lists} {fours codes bound : List ℕ} {m : ℕ} (x : Context L fou
         pub assessed-touching : Not-apart (points-in (L .points)) (fours-in m fours) ms m → Propagates (job L) (fours-in m fours) ms 0 0 ms
         assessed-touching n = propagates-not-apart x same set-flags a b y e (touching-law-5 x n)
 
+        pub assessed-unheld : Unfaced (L .inner) held held → Propagates (job L) (fours-in m fours) ms 0 0 ms
+        assessed-unheld u = propagates-unheld x same set-flags a b y e (unfaced-broken x set-flags u)
+
         module _ {flags : List ℕ} (l : Links-are m fours ms 2 2 flags) where
           pub assessed-loose : Unlinked (length (L .points) / 3) (L .kept) flags → Propagates (job L) (fours-in m fours) ms 0 0 ms
           assessed-loose u = propagates-loose x same set-flags a b y e l u
 
           pub assessed-filling :
-              All-linked (length (L .points) / 3) (L .kept) flags → All-apart (points-in (L .points)) (fours-in m fours) ms m → Ready (job L) (fours-in m fours) ms →
+              All-linked (length (L .points) / 3) (L .kept) flags → All-faced (L .inner) held held → All-apart (points-in (L .points)) (fours-in m fours) ms m → Ready (job L) (fours-in m fours) ms →
               Propagates (job L) (fours-in m fours) ms 1 0 ms
-          assessed-filling u c r = propagates-linked x same set-flags a b y e l r (closed-law-5 x c) u
+          assessed-filling u i c r = propagates-linked x same set-flags a b y e l r (closed-law-5 x c) u (faced-kept x set-flags i)
 
 -- ---- the marks ms pruned to ns
 module _

@@ -11,20 +11,20 @@ use Rattle.candidates.proofs.pool.compact.Statement.{statement}
 use Rattle.candidates.proofs.pool.compact.Tie as tie
 
 abbrev Inv-loop : tie.InvT-loop
-Inv-loop points triangles kept table fours codes qualities m marks fours2₀ codes2₀ qualities2₀ c₀ k₀ fours2 codes2 qualities2 c k =
-    (k ≤ m) × Compacted (job (job-lists points triangles kept table)) fours marks k fours2 codes2 qualities2 c
+Inv-loop points triangles kept inner table fours codes qualities m marks fours2₀ codes2₀ qualities2₀ c₀ k₀ fours2 codes2 qualities2 c k =
+    (k ≤ m) × Compacted (job (job-lists points triangles kept inner table)) fours marks k fours2 codes2 qualities2 c
 
 abbrev μ-loop : tie.MeasureT-loop
-μ-loop points triangles kept table fours codes qualities m marks fours2₀ codes2₀ qualities2₀ c₀ k₀ fours2 codes2 qualities2 c k =
+μ-loop points triangles kept inner table fours codes qualities m marks fours2₀ codes2₀ qualities2₀ c₀ k₀ fours2 codes2 qualities2 c k =
     m - k
 
 abbrev start : tie.In-loop Inv-loop μ-loop → tie.Start Inv-loop μ-loop
-start c = c .before .before .before .before .before .before .before .before
+start c = c .before .before .before .before .before .before .before .before .before
 
 loop-holds : tie.Need-loop-holds Inv-loop μ-loop
 loop-holds c =
-    let s = c .before .before .before .before .before .before in
-    let a = s .args in (omega arith, compacted-start (job (job-lists (a .points .now) (a .triangles .now) (a .kept .now) (a .table .now))) (a .fours .now) (a .marks .now) (s .pre .2) (s .pre .3) (s .pre .4))
+    let s = c .before .before .before .before .before .before .before in
+    let a = s .args in (omega arith, compacted-start (job (job-lists (a .points .now) (a .triangles .now) (a .kept .now) (a .inner .now) (a .table .now))) (a .fours .now) (a .marks .now) (s .pre .2) (s .pre .3) (s .pre .4))
 
 mul-x : tie.Need-mul-x Inv-loop μ-loop
 mul-x c = omega (arith, start c .pre .0 .few)
@@ -66,7 +66,7 @@ loop-again c =
 
 returns : tie.Need-returns Inv-loop μ-loop
 returns c =
-    let s = c .before .before .before .before .before .before .before .before in
+    let s = c .before .before .before .before .before .before .before .before .before in
     let i = c .before .loop .inv in
     let e : c .before .loop .k ≡ s .args .m = omega arith in let w = rw e at (i .1) in (compacted-filed (s .pre .0) w, w .alive)
 

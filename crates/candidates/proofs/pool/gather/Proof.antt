@@ -19,18 +19,18 @@ use Rattle.candidates.proofs.pool.gather.Statement.{statement}
 use Rattle.candidates.proofs.pool.gather.Tie as tie
 
 abbrev Inv-loop : tie.InvT-loop
-Inv-loop points triangles kept table rows bound q fours₀ codes₀ qualities₀ n f₀ at₀ k₀ fours codes qualities f at k =
-    (n ≡ length (points-in points)) × Staged n f × Gathering (job (job-lists points triangles kept table)) q fours codes qualities k f × (at ≡ place n f)
+Inv-loop points triangles kept inner table rows bound q fours₀ codes₀ qualities₀ n f₀ at₀ k₀ fours codes qualities f at k =
+    (n ≡ length (points-in points)) × Staged n f × Gathering (job (job-lists points triangles kept inner table)) q fours codes qualities k f × (at ≡ place n f)
 
 abbrev μ-loop : tie.MeasureT-loop
-μ-loop points triangles kept table rows bound q fours₀ codes₀ qualities₀ n f₀ at₀ k₀ fours codes qualities f at k =
+μ-loop points triangles kept inner table rows bound q fours₀ codes₀ qualities₀ n f₀ at₀ k₀ fours codes qualities f at k =
     160000 - rank f
 
 abbrev lists : tie.Start Inv-loop μ-loop → Lists
-lists s = let a = s .args in job-lists (a .points .now) (a .triangles .now) (a .kept .now) (a .table .now)
+lists s = let a = s .args in job-lists (a .points .now) (a .triangles .now) (a .kept .now) (a .inner .now) (a .table .now)
 
 abbrev start : tie.Then1 Inv-loop μ-loop → tie.Start Inv-loop μ-loop
-start t = t .before .before .before .before .before .before .before
+start t = t .before .before .before .before .before .before .before .before
 
 points-and-table : (s : tie.Start Inv-loop μ-loop) → Measured (s .args .points .now) (s .args .table .now)
 points-and-table s = measured (lists s) (s .pre .0)
@@ -43,7 +43,7 @@ few-points t = omega (arith, points-and-table (start t) .most, t .before .before
 
 loop-holds : tie.Need-loop-holds Inv-loop μ-loop
 loop-holds c =
-    let s = c .before .before .before .before in
+    let s = c .before .before .before .before .before in
     let a = s .args in
     let e = sym (points-count (a .points .now)) in (
       e,
@@ -113,7 +113,7 @@ loop-again c =
 
 returns : tie.Need-returns Inv-loop μ-loop
 returns c =
-    let s = c .before .before .before .before .before .before .before in
+    let s = c .before .before .before .before .before .before .before .before in
     let i = c .before .before .loop .inv in gathering-end (lists s) (i .0) (s .pre .0) (i .1) (omega arith) (i .2)
 
 pub gather-spec : {M : Type 1} → statement M

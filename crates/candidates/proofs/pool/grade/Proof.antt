@@ -11,22 +11,22 @@ use Rattle.candidates.proofs.pool.grade.Statement.{statement}
 use Rattle.candidates.proofs.pool.grade.Tie as tie
 
 abbrev lists : tie.Start → Lists
-lists s = let a = s .args in job-lists (a .points .now) (a .triangles .now) (a .kept .now) (a .table .now)
+lists s = let a = s .args in job-lists (a .points .now) (a .triangles .now) (a .kept .now) (a .inner .now) (a .table .now)
 
 abbrev start : tie.After-e → tie.Start
-start c = c .before .before .before .before .before
+start c = c .before .before .before .before .before .before
 
 entry-read : (s : tie.Start) → getD (s .args .table .now) (s .args .at) (pos 0) ≡ getD (s .args .table .now) (place (s .args .n) (s .args .f)) (negsuc 0)
 entry-read s = read-at-place (lists s) (s .pre .0) (s .pre .4) (s .pre .5) (s .pre .6)
 
 mul-e : tie.Need-mul-e
 mul-e c =
-    let s = c .before .before .before .before in
+    let s = c .before .before .before .before .before in
     omega (arith, place-inside (lists s) (s .pre .0) (s .pre .4) (s .pre .5) (s .pre .6) .1)
 
 shared-slice-copy-out-e : tie.Need-shared-slice-copy-out-e
 shared-slice-copy-out-e c =
-    let s = c .before .before .before .before in
+    let s = c .before .before .before .before .before in
     place-inside (lists s) (s .pre .0) (s .pre .4) (s .pre .5) (s .pre .6) .0
 
 returns : tie.Need-returns

@@ -14,14 +14,14 @@ use Rattle.propagation.proofs.closed.all_apart.Statement.{statement}
 use Rattle.propagation.proofs.closed.all_apart.Tie as tie
 
 abbrev Inv-loop : tie.InvT-loop
-Inv-loop points triangles kept table rows fours codes bound m marks k₀ k = (k ≤ m) × All-apart (points-in points) (fours-in m fours) marks k
+Inv-loop points triangles kept inner table rows fours codes bound m marks k₀ k = (k ≤ m) × All-apart (points-in points) (fours-in m fours) marks k
 
 abbrev μ-loop : tie.MeasureT-loop
-μ-loop points triangles kept table rows fours codes bound m marks k₀ k = m - k
+μ-loop points triangles kept inner table rows fours codes bound m marks k₀ k = m - k
 
 -- the start, from the loop
 abbrev start : tie.At-loop Inv-loop μ-loop → tie.Start Inv-loop μ-loop
-start l = l .before .before .before .before .before .before .before .before
+start l = l .before .before .before .before .before .before .before .before .before
 
 loop-holds : tie.Need-loop-holds Inv-loop μ-loop
 loop-holds c = (omega arith, all-apart-none _ _ _)

@@ -7,14 +7,14 @@ use Rattle.propagation.proofs.propagate.propagate.Tie as tie
 
 -- the start, from the pruned state
 abbrev start : tie.After-prune-from → tie.Start
-start c = c .before .before .before .before .before .before .before .before .before .before
+start c = c .before .before .before .before .before .before .before .before .before .before .before
 
 index-1-prune-from : tie.Need-index-1-prune-from
 index-1-prune-from c = omega arith
 
 prune-from-requires : tie.Need-prune-from-requires
 prune-from-requires c κs =
-    let p = c .before .before .before .before .before .before .before .before .before .pre in
+    let p = c .before .before .before .before .before .before .before .before .before .before .pre in
     let x = p .0 .context in record { coded = context-coded x; bound-long = x .bound-long; rows = p .2 .rows; held-long = p .2 .holds .long; living = p .2 .living }
 
 assess-requires : tie.Need-assess-requires

@@ -7,26 +7,26 @@ use Rattle.raising.proofs.raise.extend_from.Statement.{statement}
 use Rattle.raising.proofs.raise.extend_from.Tie as tie
 
 begin-requires : tie.Need-begin-requires
-begin-requires c κs = let p = c .before .before .before .before .before .before .before .before .pre in (context-coded (p .0 .context), p .1, p .2)
+begin-requires c κs = let p = c .before .before .before .before .before .before .before .before .before .pre in (context-coded (p .0 .context), p .1, p .2)
 
 index-1-sweep : tie.Need-index-1-sweep
 index-1-sweep c = omega arith
 
 sweep-requires : tie.Need-sweep-requires
 sweep-requires c κs =
-    let p = c .before .before .before .before .before .before .before .before .before .before .before .before .pre in
+    let p = c .before .before .before .before .before .before .before .before .before .before .before .before .before .pre in
     let b = c .before .before .before .begin .ensures in begun-prunable (context-coded (p .0 .context)) (p .0 .context .bound-long) (p .2) (b .0) (b .1)
 
 face-requires : tie.Need-face-requires
 face-requires c κs =
-    let p = c .before .before .before .before .before .before .before .before .before .before .before .before .before .before .pre .0 in
+    let p = c .before .before .before .before .before .before .before .before .before .before .before .before .before .before .before .pre .0 in
     let b = c .before .before .before .before .before .begin .ensures .0 in
     let w = c .before .sweep .ensures in (p, swept-ready (p .context) b w, swept-in-order b w)
 
 returns : tie.Need-returns
 returns c =
     let f = c .face in
-    (attempted-at (c .before .before .before .before .before .before .before .before .before .before .before .before .before .before .before .pre .0 .context) (c .before .before .before .before .before .before .begin .ensures .0) (c .before .before .sweep .ensures) (f .last .1 .1 .1 .1 .1 .1 .1 .1 .1 .1 .1 .1 .1 .0) (f .ensures .0), f .ensures .1)
+    (attempted-at (c .before .before .before .before .before .before .before .before .before .before .before .before .before .before .before .before .pre .0 .context) (c .before .before .before .before .before .before .begin .ensures .0) (c .before .before .sweep .ensures) (f .last .1 .1 .1 .1 .1 .1 .1 .1 .1 .1 .1 .1 .1 .1 .0) (f .ensures .0), f .ensures .1)
 
 pub extend-from-spec : {M : Type 1} → statement M
 extend-from-spec =

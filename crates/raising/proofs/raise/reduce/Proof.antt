@@ -11,15 +11,15 @@ use Rattle.raising.proofs.raise.reduce.Statement.{statement}
 use Rattle.raising.proofs.raise.reduce.Tie as tie
 
 -- the pool lent
-abbrev context-of : (s : tie.Start) → let x = s .args in Context (job-lists (x .points .now) (x .triangles .now) (x .kept .now) (x .table .now)) (x .fours .now) (x .codes .now) (x .bound .now) (x .m)
+abbrev context-of : (s : tie.Start) → let x = s .args in Context (job-lists (x .points .now) (x .triangles .now) (x .kept .now) (x .inner .now) (x .table .now)) (x .fours .now) (x .codes .now) (x .bound .now) (x .m)
 context-of s = filed-context (s .pre .0) (s .pre .5 .filed) (s .pre .1) (s .pre .2)
 
 begin-requires : tie.Need-begin-requires
-begin-requires c κs = let s = c .before .before .before .before .before .before .before in (context-coded (context-of s), qualities-long (s .pre .5 .filed), new-sized)
+begin-requires c κs = let s = c .before .before .before .before .before .before .before .before in (context-coded (context-of s), qualities-long (s .pre .5 .filed), new-sized)
 
 sweep-requires : tie.Need-sweep-requires
 sweep-requires c κs =
-    let s = c .before .before .before .before .before .before .before .before .before in
+    let s = c .before .before .before .before .before .before .before .before .before .before in
     let b = c .before .begin .ensures in begun-prunable (context-coded (context-of s)) (s .pre .2) new-sized (b .0) (b .1)
 
 index-1-compact : tie.Need-index-1-compact
@@ -27,13 +27,13 @@ index-1-compact c = omega arith
 
 compact-requires : tie.Need-compact-requires
 compact-requires c κs =
-    let p = c .before .before .before .before .before .before .before .before .before .before .before .before .before .before .before .pre in
+    let p = c .before .before .before .before .before .before .before .before .before .before .before .before .before .before .before .before .pre in
     let l = c .before .before .before .before .before .sweep .ensures .pruned .trailed .living .marks-long in
     let few = p .5 .filed .few in (p .5 .filed, omega arith, p .6, p .7, p .8)
 
 returns : tie.Need-returns
 returns c =
-    let s = c .before .before .before .before .before .before .before .before .before .before .before .before .before .before .before .before in
+    let s = c .before .before .before .before .before .before .before .before .before .before .before .before .before .before .before .before .before in
     let b = c .before .before .before .before .before .before .before .before .begin .ensures .0 in
     let w = c .before .before .before .before .before .before .sweep .ensures in
     let k = c .compact .ensures in reduced-whole (s .pre .0) (s .pre .4) (s .pre .3) (s .pre .5) (b .from) (swept-reduced (context-of s) b w) (k .0) (k .1)

@@ -6,10 +6,10 @@ use Rattle.search.proofs.search.anything_loose.Statement.{statement}
 use Rattle.search.proofs.search.anything_loose.Tie as tie
 
 abbrev Inv-loop : tie.InvT-loop
-Inv-loop n triangles kept p₀ p = (p ≤ n)
+Inv-loop n triangles kept inner p₀ p = (p ≤ n)
 
 abbrev μ-loop : tie.MeasureT-loop
-μ-loop n triangles kept p₀ p = n - p
+μ-loop n triangles kept inner p₀ p = n - p
 
 returns : tie.Need-returns Inv-loop μ-loop
 returns c = tt

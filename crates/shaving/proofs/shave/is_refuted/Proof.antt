@@ -12,7 +12,7 @@ use Rattle.shaving.proofs.Shaving.ShaveLoop.{hopeless-useless}
 
 -- the places before: the start, the calls
 abbrev start : tie.After-place → tie.Start
-start p = p .before .before .before .before .before .before .before .before
+start p = p .before .before .before .before .before .before .before .before .before
 
 abbrev placing : tie.After-propagate → tie.After-place
 placing z = z .before .before
@@ -31,13 +31,13 @@ abbrev placed : tie.After-place → List (List ℕ)
 placed p = p .place .last .1 .1 .1 .1 .1 .1 .0
 
 abbrev fallen : tie.After-propagate → List (List ℕ)
-fallen z = z .propagate .last .1 .1 .1 .1 .1 .1 .1 .1 .1 .1 .1 .1 .1 .0
+fallen z = z .propagate .last .1 .1 .1 .1 .1 .1 .1 .1 .1 .1 .1 .1 .1 .1 .0
 
 abbrev undone : tie.After-undo → List (List ℕ)
 undone u = u .undo .last .1 .1 .1 .1 .0
 
 place-requires : tie.Need-place-requires
-place-requires c κs = let h = c .before .before .before .before .before .before .before .pre in can-place (h .0) (h .3) (h .4) (h .2)
+place-requires c κs = let h = c .before .before .before .before .before .before .before .before .pre in can-place (h .0) (h .3) (h .4) (h .2)
 
 propagate-requires : tie.Need-propagate-requires
 propagate-requires c κs =

@@ -13,7 +13,7 @@ use Rattle.extension.proofs.Exploring.Answers.{corner-failed}
 use Rattle.extension.proofs.extend.+corner+face.Proof.Cycle.{corner-at, corner-claims, corner-start, placing, exploring, undoing, old, placed, explored, undone}
 
 pub corner-place-requires : (t : ℕ) → corner-lts.Need-place-requires (corner-claims t) (corner-at t) corner.Post
-corner-place-requires t c κs = let h = c .before .before .before .before .before .before .before .pre .1 in can-place (h .0) (h .3) (h .4) (h .2)
+corner-place-requires t c κs = let h = c .before .before .before .before .before .before .before .before .pre .1 in can-place (h .0) (h .3) (h .4) (h .2)
 
 pub corner-face-requires : (t : ℕ) → corner-lts.Need-face-requires (corner-claims t) (corner-at t) corner.Post
 corner-face-requires t c κs =

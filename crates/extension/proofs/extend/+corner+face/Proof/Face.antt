@@ -33,7 +33,7 @@ left-of t l =
     reduced-trans {j = job (lists t z)} {cs = fours-in (a .m) (a .fours .now)} {ls = marks-of (a .state .now)} {ms = marks-of (propagated t z)} {ns = marks-of (l .loop .state)} (z .propagate .ensures .0 .propagates .reduced) (l .loop .inv .2 .tried .reduced)
 
 pub face-propagate-requires : (t : ℕ) → face-lts.Need-propagate-requires (face-claims t) (face-at t) face.Post face-Inv-loop face-μ-loop
-face-propagate-requires t c κs = c .before .before .before .before .before .before .before .pre .1
+face-propagate-requires t c κs = c .before .before .before .before .before .before .before .before .pre .1
 
 pub face-returns : (t : ℕ) → face-lts.Need-returns (face-claims t) (face-at t) face.Post face-Inv-loop face-μ-loop
 face-returns t c =
@@ -132,15 +132,15 @@ face-loop-again t c =
     let b = c .before .before .loop-test .taken in
     elim (c .if2 .came) [
       | inl w ↦
-          let e = exploring-discarded o (l .loop .state) {tried = w .4 .last .1 .1 .1 .1 .1 .1 .1 .1 .1 .1 .1 .1 .1 .0} {new = w .9 .last .1 .1 .1 .1 .1 .0} {end = l .loop .end} {k = l .loop .k} x b (w .0 .taken) g (w .5 .left) (w .4 .ensures .0) (w .9 .ensures .0) (w .9 .ensures .1) (i .2) in
-          exploring-step o {new = w .14 .last .1 .1 .1 .1 .1 .1 .1 .1 .1 .1 .1 .1 .0} {end = w .14 .result} b (w .15) (w .16)
-          (exploring-shaved o (w .9 .last .1 .1 .1 .1 .1 .0) (w .14 .last .1 .1 .1 .1 .1 .1 .1 .1 .1 .1 .1 .1 .0) (omega (arith, context-count x, b)) (e .1) (w .14 .ensures .0) (w .14 .ensures .1))
+          let e = exploring-discarded o (l .loop .state) {tried = w .4 .last .1 .1 .1 .1 .1 .1 .1 .1 .1 .1 .1 .1 .1 .1 .0} {new = w .9 .last .1 .1 .1 .1 .1 .0} {end = l .loop .end} {k = l .loop .k} x b (w .0 .taken) g (w .5 .left) (w .4 .ensures .0) (w .9 .ensures .0) (w .9 .ensures .1) (i .2) in
+          exploring-step o {new = w .14 .last .1 .1 .1 .1 .1 .1 .1 .1 .1 .1 .1 .1 .1 .0} {end = w .14 .result} b (w .15) (w .16)
+          (exploring-shaved o (w .9 .last .1 .1 .1 .1 .1 .0) (w .14 .last .1 .1 .1 .1 .1 .1 .1 .1 .1 .1 .1 .1 .1 .0) (omega (arith, context-count x, b)) (e .1) (w .14 .ensures .0) (w .14 .ensures .1))
       | inr (inl w) ↦
           exploring-step o {new = w .9 .last .1 .1 .1 .1 .1 .0} b (w .13) (w .14)
-          (exploring-discarded o (l .loop .state) {tried = w .4 .last .1 .1 .1 .1 .1 .1 .1 .1 .1 .1 .1 .1 .1 .0} {new = w .9 .last .1 .1 .1 .1 .1 .0} {end = l .loop .end} {k = l .loop .k} x b (w .0 .taken) g (w .5 .left) (w .4 .ensures .0) (w .9 .ensures .0) (w .9 .ensures .1) (i .2))
+          (exploring-discarded o (l .loop .state) {tried = w .4 .last .1 .1 .1 .1 .1 .1 .1 .1 .1 .1 .1 .1 .1 .1 .0} {new = w .9 .last .1 .1 .1 .1 .1 .0} {end = l .loop .end} {k = l .loop .k} x b (w .0 .taken) g (w .5 .left) (w .4 .ensures .0) (w .9 .ensures .0) (w .9 .ensures .1) (i .2))
       | inr (inr (inl w)) ↦
           exploring-step o {new = w .9 .last .1 .1 .1 .1 .1 .0} b (w .12) (w .13)
-          (exploring-discarded o (l .loop .state) {tried = w .4 .last .1 .1 .1 .1 .1 .1 .1 .1 .1 .1 .1 .1 .1 .0} {new = w .9 .last .1 .1 .1 .1 .1 .0} {end = l .loop .end} {k = l .loop .k} x b (w .0 .taken) g (w .5 .left) (w .4 .ensures .0) (w .9 .ensures .0) (w .9 .ensures .1) (i .2))
+          (exploring-discarded o (l .loop .state) {tried = w .4 .last .1 .1 .1 .1 .1 .1 .1 .1 .1 .1 .1 .1 .1 .1 .0} {new = w .9 .last .1 .1 .1 .1 .1 .0} {end = l .loop .end} {k = l .loop .k} x b (w .0 .taken) g (w .5 .left) (w .4 .ensures .0) (w .9 .ensures .0) (w .9 .ensures .1) (i .2))
       | inr (inr (inr (inl w))) ↦ exploring-step o b (w .3) (w .4) (i .1, exploring-skip (i .2) (λ y q. w .1 .ensures .1 (w .2 .left) q))
       | inr (inr (inr (inr w))) ↦ exploring-step o b (w .1) (w .2) (i .1, exploring-skip (i .2) (λ y q. absurd (w .0 .left y)))
     ]
