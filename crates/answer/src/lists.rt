@@ -4,6 +4,7 @@ use printing::print::print_refusal;
 use search::search::search;
 ghost use Prim.Native.Nat.{_≤_};
 ghost use lib.ListN.{length};
+ghost use Rattle.laws.specs.Lists.{job-lists};
 ghost use Rattle.answer.specs.inner.Lists.{Lists-printed};
 
 // The printout of the job that the lists are.
@@ -11,14 +12,15 @@ pub(crate) fn print_lists(
     points: &[i32],
     triangles: &[u8],
     kept: &[u8],
+    inner: &[u8],
     table: &[i32],
     out: &mut [u8],
 ) -> usize
     requires { ⌜ 43695 ≤ length (now out) ⌝ }
-    ensures { λ r. ⌜ Lists-printed (record { points = now (points .entry); triangles = now (triangles .entry); kept = now (kept .entry); table = now (table .entry) }) (now (out .entry)) r (now (out .exit)) ⌝ }
+    ensures { λ r. ⌜ Lists-printed (job-lists (now (points .entry)) (now (triangles .entry)) (now (kept .entry)) (now (inner .entry)) (now (table .entry))) (now (out .entry)) r (now (out .exit)) ⌝ }
 {
     let mut answer: [u8; 7280] = [0; 7280];
-    let found = search(points, triangles, kept, table, &mut answer);
+    let found = search(points, triangles, kept, inner, table, &mut answer);
     if found.number != 0 {
         return print_refusal(found.number, out);
     }

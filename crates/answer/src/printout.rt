@@ -18,6 +18,7 @@ pub struct JobArrays {
     pub points: [i32; 51],
     pub triangles: [u8; 1683],
     pub kept: [u8; 242],
+    pub inner: [u8; 1683],
     pub table: [i32; 1820],
 }
 
@@ -27,13 +28,22 @@ fn read_arrays(text: &[u8]) -> JobArrays
     let mut points: [i32; 51] = [0; 51];
     let mut triangles: [u8; 1683] = [0; 1683];
     let mut kept: [u8; 242] = [0; 242];
+    let mut inner: [u8; 1683] = [0; 1683];
     let mut table: [i32; 1820] = [0; 1820];
-    let read = read_job(text, &mut points, &mut triangles, &mut kept, &mut table);
+    let read = read_job(
+        text,
+        &mut points,
+        &mut triangles,
+        &mut kept,
+        &mut inner,
+        &mut table,
+    );
     JobArrays {
         read,
         points,
         triangles,
         kept,
+        inner,
         table,
     }
 }
@@ -47,12 +57,21 @@ fn print_arrays(a: JobArrays, out: &mut [u8]) -> usize
     let points = a.points;
     let triangles = a.triangles;
     let kept = a.kept;
+    let inner = a.inner;
     let table = a.table;
     let p = read.points;
     let t = read.triangles;
     let e = read.kept;
+    let k = read.inner;
     let q = read.table;
-    print_lists(&points[..p], &triangles[..t], &kept[..e], &table[..q], out)
+    print_lists(
+        &points[..p],
+        &triangles[..t],
+        &kept[..e],
+        &inner[..k],
+        &table[..q],
+        out,
+    )
 }
 
 // The printout of a text into a buffer that holds every printout.

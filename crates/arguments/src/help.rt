@@ -8,7 +8,7 @@ fn print(text: &[u8]) {
 }
 
 pub fn print_version() {
-    print(b"cavity 1.0.1\n");
+    print(b"cavity 1.1.0\n");
 }
 
 pub fn print_help() {
@@ -27,6 +27,7 @@ A job is lines that end with LF, fields parted by commas without blanks, in this
 \x20 P,x,y,z      a point; whole coordinates from -10000 to 10000; 4 to 16 of them, numbered from 0\n\
 \x20 T,a,b,c      a boundary triangle, counter-clockwise seen from outside; 4 to 560 of them\n\
 \x20 E,a,b        an edge to be kept; up to 120 of them\n\
+\x20 K,a,b,c      a triangle inside to be kept as a face; up to 560 of them\n\
 \x20 Q,a,b,c,d,v  the quality of the four a<b<c<d in millionths, 1 to 1000000; 0 bars it\n\
 Numbers have 1 to 7 digits and no leading zeros; a minus stands only before a coordinate that\n\
 is not 0. Every four that is not flat needs a Q line. A text has at most 65536 bytes.\n\

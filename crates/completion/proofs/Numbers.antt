@@ -1,4 +1,4 @@
--- Numbers 1 to 11, as the functions find them, are the text's; and the lists that were read are the text's where none refuses. Assumes nothing.
+-- The numbers but 12 and 13, as the functions find them, are the text's; and the lists that were read are the text's where none refuses. Assumes nothing.
 use mathlib.Core.Path.{_≡_, refl, sym, subst, ap, _∙_}
 use mathlib.Core.Bool.{Bool, true, false, cond}
 use mathlib.Core.List.{List, _++_}

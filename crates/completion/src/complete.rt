@@ -24,6 +24,7 @@ pub struct JobArrays {
     pub points: [i32; 51],
     pub triangles: [u8; 1683],
     pub kept: [u8; 242],
+    pub inner: [u8; 1683],
     pub table: [i32; 1820],
 }
 
@@ -33,22 +34,35 @@ fn read_arrays(text: &[u8]) -> JobArrays
     let mut points: [i32; 51] = [0; 51];
     let mut triangles: [u8; 1683] = [0; 1683];
     let mut kept: [u8; 242] = [0; 242];
+    let mut inner: [u8; 1683] = [0; 1683];
     let mut table: [i32; 1820] = [0; 1820];
-    let read = read_job(text, &mut points, &mut triangles, &mut kept, &mut table);
+    let read = read_job(
+        text,
+        &mut points,
+        &mut triangles,
+        &mut kept,
+        &mut inner,
+        &mut table,
+    );
     JobArrays {
         read,
         points,
         triangles,
         kept,
+        inner,
         table,
     }
 }
 
-// 1 to 11: completing leaves 12 as it is and mends 13.
+// Every number but two: completing leaves 12 as it is and mends 13.
 fn early(number: u32) -> u32
     ensures { λ r. ⌜ r ≡ early number ⌝ }
 {
-    if number <= 11 { number } else { 0 }
+    if (number == 12) | (number == 13) {
+        0
+    } else {
+        number
+    }
 }
 
 // The number that refuses the lists that were read.
@@ -60,12 +74,20 @@ fn check_arrays(a: JobArrays) -> u32
     let points = a.points;
     let triangles = a.triangles;
     let kept = a.kept;
+    let inner = a.inner;
     let table = a.table;
     let p = read.points;
     let t = read.triangles;
     let e = read.kept;
+    let k = read.inner;
     let q = read.table;
-    early(check_job(&points[..p], &triangles[..t], &kept[..e], &table[..q]))
+    early(check_job(
+        &points[..p],
+        &triangles[..t],
+        &kept[..e],
+        &inner[..k],
+        &table[..q],
+    ))
 }
 
 // The text and the lines that its lists lack.

@@ -24,17 +24,17 @@ within true true e = e refl refl
 within true false e = refl
 within false t e = refl
 
-module _ (x : ℕ) (ws : List (List ℕ)) (n : letter-kind x ≡ 4 → ⊥) (f : Fields) (g : Fields-read (eqb (letter-kind x) 0) ws f) where
+module _ (x : ℕ) (ws : List (List ℕ)) (n : letter-kind x ≡ 5 → ⊥) (f : Fields) (g : Fields-read (eqb (letter-kind x) 0) ws f) where
   abbrev the-line : Line
   the-line = record { letter = x; fields = ws }
 
   abbrev all : Bool
   all = all-fields (field-form (eqb (letter-kind x) 0)) ws
 
-  same-rise : f .ok ≡ true → all ≡ true → eqb (length ws) (width (letter-kind x)) ≡ true → eqb (letter-kind x) 3 ≡ true → rising (four-in the-line) ≡ rising-values (f .values)
+  same-rise : f .ok ≡ true → all ≡ true → eqb (length ws) (width (letter-kind x)) ≡ true → eqb (letter-kind x) 4 ≡ true → rising (four-in the-line) ≡ rising-values (f .values)
   unfolding field-form width
   same-rise p a s t =
-      let k = eqb-true (letter-kind x) 3 t in
+      let k = eqb-true (letter-kind x) 4 t in
       let l : length ws ≡ 5 = eqb-true (length ws) (width (letter-kind x)) s ∙ ap width k in
       rising-same x ws (f .values) (subst (λ (j : ℕ). all-fields (field-form (eqb j 0)) ws ≡ true) k a)
       (ap (λ (j : ℕ). take j (f .values)) (sym l) ∙ g .numbers p)
@@ -47,7 +47,7 @@ module _ (x : ℕ) (ws : List (List ℕ)) (n : letter-kind x ≡ 4 → ⊥) (f :
       long = eqb (length ws) (width (letter-kind x))
 
       rose : Bool
-      rose = not (eqb (letter-kind x) 3) || rising (four-in the-line)
+      rose = not (eqb (letter-kind x) 4) || rising (four-in the-line)
 
       misfit : (s : Bool) → long ≡ s → f .ok ≡ false → (s && (all && rose)) ≡ false
       misfit false e p = refl
@@ -62,8 +62,8 @@ module _ (x : ℕ) (ws : List (List ℕ)) (n : letter-kind x ≡ 4 → ⊥) (f :
           let q = and-true (leb (length ws) 5) all (sym (g .form) ∙ p) in
           by-letter ws x n .form
           ∙ ap (λ (t : Bool). long && (t && rose)) (q .1)
-          ∙ within long (eqb (letter-kind x) 3) (λ s t. same-rise p (q .1) s t)
-          ∙ ap (λ (j : ℕ). eqb j (width (letter-kind x)) && (not (eqb (letter-kind x) 3) || rising-values (f .values))) (sym (g .count p))
+          ∙ within long (eqb (letter-kind x) 4) (λ s t. same-rise p (q .1) s t)
+          ∙ ap (λ (j : ℕ). eqb j (width (letter-kind x)) && (not (eqb (letter-kind x) 4) || rising-values (f .values))) (sym (g .count p))
           ∙ sym (ap (λ (t : Bool). t && of-kind (letter-kind x) (f .count) (f .values)) p)
       go false p = by-letter ws x n .form ∙ misfit long refl p ∙ sym (ap (λ (t : Bool). t && of-kind (letter-kind x) (f .count) (f .values)) p)
 
@@ -72,7 +72,7 @@ module _ (x : ℕ) (ws : List (List ℕ)) (n : letter-kind x ≡ 4 → ⊥) (f :
   line-taken p =
       let q = and-true (f .ok) (of-kind (letter-kind x) (f .count) (f .values)) p in
       let k = by-letter ws x n .number in
-      let l = eqb-true (f .count) (width (letter-kind x)) (and-true (eqb (f .count) (width (letter-kind x))) (not (eqb (letter-kind x) 3) || rising-values (f .values)) (q .1) .0) in
+      let l = eqb-true (f .count) (width (letter-kind x)) (and-true (eqb (f .count) (width (letter-kind x))) (not (eqb (letter-kind x) 4) || rising-values (f .values)) (q .1) .0) in
       record {
         form = sym (form-by-fields ∙ p);
         kind-of = λ _. sym k;

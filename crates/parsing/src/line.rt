@@ -1,4 +1,4 @@
-// Lines of job text (document 01, Text and printout): a letter, then fields behind commas.
+// Lines of job text (document 01, Text and printout; K document 02): a letter, then fields behind commas.
 // Assumes nothing.
 use crate::field::field_in;
 use crate::field::find;
@@ -14,7 +14,7 @@ pub struct Fields {
     pub values: [i32; 5],
 }
 
-// Kinds are numbered in their order: P 0, T 1, E 2, Q 3.
+// Kinds are numbered in their order: P 0, T 1, E 2, K 3, Q 4.
 pub struct Parsed {
     pub ok: bool,
     pub kind: usize,
@@ -59,7 +59,7 @@ fn no_fields() -> Fields
     }
 }
 
-// The kind of a letter, 4 where it has none.
+// The kind of a letter, 5 where it has none.
 fn kind_of(letter: u8) -> usize
     ensures { λ r. ⌜ r ≡ letter-kind letter ⌝ }
 {
@@ -67,8 +67,9 @@ fn kind_of(letter: u8) -> usize
         80 => 0,
         84 => 1,
         69 => 2,
-        81 => 3,
-        _ => 4,
+        75 => 3,
+        81 => 4,
+        _ => 5,
     }
 }
 
@@ -78,7 +79,7 @@ fn width(kind: usize) -> usize
 {
     match kind {
         2 => 2,
-        3 => 5,
+        4 => 5,
         _ => 3,
     }
 }
@@ -94,7 +95,7 @@ fn is_rising(values: [i32; 5]) -> bool
 fn is_of_kind(kind: usize, count: usize, values: [i32; 5]) -> bool
     ensures { λ r. ⌜ r ≡ of-kind kind count values ⌝ }
 {
-    (count == width(kind)) & ((kind != 3) | is_rising(values))
+    (count == width(kind)) & ((kind != 4) | is_rising(values))
 }
 
 fn no_line() -> Parsed
@@ -102,7 +103,7 @@ fn no_line() -> Parsed
 {
     Parsed {
         ok: false,
-        kind: 4,
+        kind: 5,
         values: [0; 5],
     }
 }
@@ -115,7 +116,7 @@ pub fn line_in(line: &[u8]) -> Parsed
         return no_line();
     }
     let kind = kind_of(line[0]);
-    if (kind == 4) | (line[1] != 44) {
+    if (kind == 5) | (line[1] != 44) {
         return no_line();
     }
     let f = fields_in(&line[2..], kind == 0);

@@ -14,10 +14,10 @@ use Rattle.laws.specs.Check.{two-alike, tri-bad, any-tri-bad, tris-alike, direc
 use Rattle.laws.specs.inner.Listed.{triangles-in, kept-in, tri-at, edge-at, same-three, edge-wrong}
 use Rattle.laws.specs.inner.Unmeasured.{four-unmeasured}
 use Rattle.places.specs.declared.points.Pair.{Pair}
-use Rattle.places.specs.declared.place.Place.the-variants.{Nowhere, Coordinate, Points, Triangle, Triangles, Edge, Kept, Entry, Unmeasured}
+use Rattle.places.specs.declared.place.Place.the-variants.{Nowhere, Coordinate, Points, Triangle, Triangles, Edge, Kept, Inner, Entry, Unmeasured}
 use Rattle.places.specs.inner.Searches.{Found, Pair-found, Edge-found}
 use Rattle.places.specs.Places.{has-place, First-unmeasured, Fault-at}
-use Rattle.places.proofs.Numbers.{fault-3, fault-4, fault-6, fault-7, fault-8, fault-10, fault-12, fault-13}
+use Rattle.places.proofs.Numbers.{fault-3, fault-4, fault-6, fault-7, fault-8, fault-10, fault-23, fault-12, fault-13}
 
 module _ (l : Lists) (k : ℕ) (e : k ≡ job-refusal l) where
   pub at-coordinate : {r : ℕ} → k ≡ 3 → Found (any-far (l .points)) (λ i. far (getD (l .points) i (pos 0))) 0 (length (l .points)) r → Fault-at l (Coordinate r)
@@ -53,6 +53,12 @@ module _ (l : Lists) (k : ℕ) (e : k ≡ job-refusal l) where
       Fault-at l (Kept r)
   unfolding Fault-at
   at-kept t f = let n = sym e ∙ t in let s = f .some (fault-10 l n) in (n, s, f .there s)
+
+  pub at-inner :
+      {r : ℕ} → k ≡ 23 → Found (any-tri-bad (length (l .points) / 3) (triangles-in (l .inner))) (λ i. tri-bad (length (l .points) / 3) (tri-at (l .inner) i)) 0 (length (l .inner) / 3) r →
+      Fault-at l (Inner r)
+  unfolding Fault-at
+  at-inner t f = let n = sym e ∙ t in let s = f .some (fault-23 l n) in (n, s, f .there s)
 
   pub at-entry : {r : ℕ} → k ≡ 12 → Found (any-entry-bad (l .table)) (λ i. entry-bad (getD (l .table) i (pos 0))) 0 (length (l .table)) r → Fault-at l (Entry r)
   unfolding Fault-at

@@ -1,4 +1,4 @@
--- WHERE A REFUSED JOB IS AT FAULT, by the number that refuses it (document 01, "Numbers from the input"). Assumes nothing: these are definitions.
+-- WHERE A REFUSED JOB IS AT FAULT, by the number that refuses it (documents 01, "Numbers from the input", and 02). Assumes nothing: these are definitions.
 use mathlib.Core.Path.{_≡_}
 use mathlib.Core.Bool.{Bool, true, false, _||_}
 use Prim.Native.Nat.{ℕ, _/_, _<_}
@@ -16,11 +16,11 @@ use Rattle.laws.specs.inner.NextFour.{Ordered}
 use Rattle.laws.specs.inner.Unmeasured.{four-unmeasured}
 use Rattle.places.specs.declared.place.Place.{Place}
 use Rattle.places.specs.declared.place.Placed.{Placed}
-use Rattle.places.specs.declared.place.Place.the-variants.{Nowhere, Coordinate, Points, Triangle, Triangles, Edge, Kept, Entry, Unmeasured}
+use Rattle.places.specs.declared.place.Place.the-variants.{Nowhere, Coordinate, Points, Triangle, Triangles, Edge, Kept, Inner, Entry, Unmeasured}
 
 -- the numbers that have a place in the lists
 unfoldable pub has-place : (number : ℕ) → Bool
-has-place k = (eqb k 3 || (eqb k 4 || (eqb k 6 || eqb k 7))) || (eqb k 8 || (eqb k 10 || (eqb k 12 || eqb k 13)))
+has-place k = (eqb k 3 || (eqb k 4 || (eqb k 6 || eqb k 7))) || (eqb k 8 || (eqb k 10 || (eqb k 23 || (eqb k 12 || eqb k 13))))
 
 -- a solid unmeasured four of increasing numbers below n, and none before it
 pub record First-unmeasured (n : ℕ) (j : Job) (f : Four) : Type 0 where
@@ -45,6 +45,8 @@ Fault-at l (Edge a b) =
     × (how-often a b (directed (triangles-in (l .triangles))) ≡ how-often b a (directed (triangles-in (l .triangles))) → ⊥)
 Fault-at l (Kept i) =
     (job-refusal l ≡ 10) × (i < length (l .kept) / 2) × (edge-wrong (length (l .points) / 3) (edge-at (l .kept) i) ≡ true)
+Fault-at l (Inner i) =
+    (job-refusal l ≡ 23) × (i < length (l .inner) / 3) × (tri-bad (length (l .points) / 3) (tri-at (l .inner) i) ≡ true)
 Fault-at l (Entry i) = (job-refusal l ≡ 12) × (i < length (l .table)) × (entry-bad (getD (l .table) i (pos 0)) ≡ true)
 Fault-at l (Unmeasured f) = (job-refusal l ≡ 13) × First-unmeasured (length (l .points) / 3) (job l) f
 

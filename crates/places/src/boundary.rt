@@ -1,4 +1,4 @@
-// Numbers 6 to 8: the bad triangle, the triangles with the same three points, the directed edge that stands more or less often than its reverse.
+// Numbers 6 to 8, and 23: the bad triangle of a list, the triangles with the same three points, the directed edge that stands more or less often than its reverse.
 // Assumes nothing.
 use crate::points::Pair;
 use checker::list::byte;
@@ -23,7 +23,7 @@ fn is_tri_bad(triangles: &[u8], i: usize, n: usize) -> bool
     ((n <= a) | ((n <= b) | (n <= c))) | ((a == b) | ((b == c) | (a == c)))
 }
 
-// The bad triangle.
+// The bad triangle: of the boundary for 6, of the inner ones for 23.
 pub(crate) fn bad_triangle(triangles: &[u8], n: usize) -> usize
     ensures { λ r. ⌜ Found (any-tri-bad n (triangles-in (now (triangles .entry)))) (λ i. tri-bad n (tri-at (now (triangles .entry)) i)) 0 (length (now (triangles .entry)) / 3) r ⌝ }
 {

@@ -15,9 +15,9 @@ ghost use Rattle.laws.specs.Check.{job-refusal};
 ghost use Rattle.laws.specs.Lists.{job-lists};
 ghost use Rattle.places.specs.Places.{Fault-at, Placed-at};
 
-// Points, triangles, kept edges and entries are named by their numbers in their lists, from 0.
+// Points, triangles, kept edges, inner triangles and entries are named by their numbers in their lists, from 0.
 pub enum Place {
-    // The number has no place: 2, 5, 9, 11, or none.
+    // The number has no place: 2, 5, 9, 22, 11, or none.
     Nowhere,
     // 3: the coordinate that is out of range; point i / 3.
     Coordinate(usize),
@@ -31,6 +31,8 @@ pub enum Place {
     Edge(usize, usize),
     // 10: the kept edge with an absent or repeated point.
     Kept(usize),
+    // 23: the inner triangle with an absent or repeated point.
+    Inner(usize),
     // 12: the entry that is no quality.
     Entry(usize),
     // 13: the first solid four that is not measured.
@@ -38,9 +40,16 @@ pub enum Place {
 }
 
 // The place for numbers up to 8: points and triangles.
-fn early_place(number: u32, points: &[i32], triangles: &[u8], kept: &[u8], table: &[i32]) -> Place
-    requires { ⌜ (number ≡ job-refusal (job-lists (now points) (now triangles) (now kept) (now table))) × (number ≤ 8) ⌝ }
-    ensures { λ r. ⌜ Fault-at (job-lists (now (points .entry)) (now (triangles .entry)) (now (kept .entry)) (now (table .entry))) r ⌝ }
+fn early_place(
+    number: u32,
+    points: &[i32],
+    triangles: &[u8],
+    kept: &[u8],
+    inner: &[u8],
+    table: &[i32],
+) -> Place
+    requires { ⌜ (number ≡ job-refusal (job-lists (now points) (now triangles) (now kept) (now inner) (now table))) × (number ≤ 8) ⌝ }
+    ensures { λ r. ⌜ Fault-at (job-lists (now (points .entry)) (now (triangles .entry)) (now (kept .entry)) (now (inner .entry)) (now (table .entry))) r ⌝ }
 {
     if number == 3 {
         return Place::Coordinate(far_coordinate(points));
@@ -63,13 +72,23 @@ fn early_place(number: u32, points: &[i32], triangles: &[u8], kept: &[u8], table
     Place::Nowhere
 }
 
-// The place for numbers above 8: kept edges and the table.
-fn late_place(number: u32, points: &[i32], triangles: &[u8], kept: &[u8], table: &[i32]) -> Place
-    requires { ⌜ (number ≡ job-refusal (job-lists (now points) (now triangles) (now kept) (now table))) × (8 < number) ⌝ }
-    ensures { λ r. ⌜ Fault-at (job-lists (now (points .entry)) (now (triangles .entry)) (now (kept .entry)) (now (table .entry))) r ⌝ }
+// The place for numbers above 8: kept edges, inner triangles and the table.
+fn late_place(
+    number: u32,
+    points: &[i32],
+    triangles: &[u8],
+    kept: &[u8],
+    inner: &[u8],
+    table: &[i32],
+) -> Place
+    requires { ⌜ (number ≡ job-refusal (job-lists (now points) (now triangles) (now kept) (now inner) (now table))) × (8 < number) ⌝ }
+    ensures { λ r. ⌜ Fault-at (job-lists (now (points .entry)) (now (triangles .entry)) (now (kept .entry)) (now (inner .entry)) (now (table .entry))) r ⌝ }
 {
     if number == 10 {
         return Place::Kept(bad_edge(kept, points.len() / 3));
+    }
+    if number == 23 {
+        return Place::Inner(bad_triangle(inner, points.len() / 3));
     }
     if number == 12 {
         return Place::Entry(bad_entry(table));
@@ -87,14 +106,20 @@ pub struct Placed {
 }
 
 // The place of the job's refusal. The entry is as `check_job`'s: it answers for any lists.
-pub fn place_of(points: &[i32], triangles: &[u8], kept: &[u8], table: &[i32]) -> Placed
-    ensures { λ r. ⌜ Placed-at (job-lists (now (points .entry)) (now (triangles .entry)) (now (kept .entry)) (now (table .entry))) r ⌝ }
+pub fn place_of(
+    points: &[i32],
+    triangles: &[u8],
+    kept: &[u8],
+    inner: &[u8],
+    table: &[i32],
+) -> Placed
+    ensures { λ r. ⌜ Placed-at (job-lists (now (points .entry)) (now (triangles .entry)) (now (kept .entry)) (now (inner .entry)) (now (table .entry))) r ⌝ }
 {
-    let number = check_job(points, triangles, kept, table);
+    let number = check_job(points, triangles, kept, inner, table);
     if number <= 8 {
-        let place = early_place(number, points, triangles, kept, table);
+        let place = early_place(number, points, triangles, kept, inner, table);
         return Placed { number, place };
     }
-    let place = late_place(number, points, triangles, kept, table);
+    let place = late_place(number, points, triangles, kept, inner, table);
     Placed { number, place }
 }

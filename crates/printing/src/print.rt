@@ -121,7 +121,7 @@ fn put_tetrahedra(
 }
 
 // The printout of a filling, whose fours stand at the start of the answer. 43,695 = 15 + 1,820 · 24 bytes hold the F line and the H lines.
-// Kept edges do not show in it (`filling-out-shown` of text/proofs/Filling/Accepted.antt).
+// Kept edges and inner triangles do not show in it (`filling-out-shown` of text/proofs/Filling/Accepted.antt).
 pub fn print_filling(
     points: &[i32],
     triangles: &[u8],

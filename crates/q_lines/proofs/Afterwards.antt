@@ -97,7 +97,7 @@ solid-measured :
 unfolding solid-unmeasured job entry cavity-table
 solid-measured cs h a b c d ab bc cd dn =
     let n = length (points-in cs) in
-    let pa = over-none n 0 _ (all-measured cs [] [] h) a (omega arith) (omega arith) in
+    let pa = over-none n 0 _ (all-measured cs [] [] [] h) a (omega arith) (omega arith) in
     let pb = over-none (n - suc a) (suc a) _ pa b (omega arith) (omega arith) in
     let pc = over-none (n - suc b) (suc b) _ pb c (omega arith) (omega arith) in
     let pd = over-none (n - suc c) (suc c) _ pc d (omega arith) (omega arith) in
@@ -131,7 +131,7 @@ unfolding Completed-measured Completed-reads text-refusal read-refusal measured-
 completed-measured bs e =
     let l = text-lists bs in
     let qs = filled (l .table) (measured-table (l .points)) in
-    let m = job-lists (l .points) (l .triangles) (l .kept) qs in
+    let m = job-lists (l .points) (l .triangles) (l .kept) (l .inner) qs in
     let few = text-accepted bs e .tabled .few in
     let bad = bad-kept (l .table) (measured-table (l .points)) (entries-good (points-in (l .points)) (all-fours (length (points-in (l .points))))) in
     let left = none-left (l .points) (l .table) (only letter-Q (text-lines bs)) few (text-entries bs e) in

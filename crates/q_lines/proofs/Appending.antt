@@ -9,7 +9,7 @@ use lib.Dec.{leb, eqb}
 use lib.ListN.{length}
 use Rattle.laws.proofs.Basics.Tests.{and-true, and-of}
 use Rattle.laws.proofs.Basics.Lists.{Each, none, more, each-map}
-use Rattle.text.specs.Text.{LF, letter-P, letter-T, letter-E, letter-Q, in-first, new-or-in-first, lines-of, ends-well, Line, line-in, fields-of, text-lines, line-form, kind, lines-form, only, fields-with}
+use Rattle.text.specs.Text.{LF, letter-P, letter-T, letter-E, letter-K, letter-Q, in-first, new-or-in-first, lines-of, ends-well, Line, line-in, fields-of, text-lines, line-form, kind, lines-form, only, fields-with}
 use Rattle.text.proofs.Runs.LetterLines.{fields-append, only-append, only-same, fields-other}
 
 -- ---- lines
@@ -62,26 +62,27 @@ ends-with-LF bs = ends-last bs LF []
 -- ---- the form
 pub record Q-formed-line (l : Line) : Type 0 where
   pub formed : line-form l ≡ true
-  pub last-kind : kind l ≡ 3
+  pub last-kind : kind l ≡ 4
   pub lettered : l .letter ≡ letter-Q
 
-kind-most : (l : Line) → kind l ≤ 3
+kind-most : (l : Line) → kind l ≤ 4
 unfolding kind
-kind-most l = go (eqb (l .letter) letter-P) (eqb (l .letter) letter-T) (eqb (l .letter) letter-E)
+kind-most l = go (eqb (l .letter) letter-P) (eqb (l .letter) letter-T) (eqb (l .letter) letter-E) (eqb (l .letter) letter-K)
   where
-    go : (p t e : Bool) → cond p 0 (cond t 1 (cond e 2 3)) ≤ 3
-    go true t e = omega arith
-    go false true e = omega arith
-    go false false true = omega arith
-    go false false false = omega arith
+    go : (p t e k : Bool) → cond p 0 (cond t 1 (cond e 2 (cond k 3 4))) ≤ 4
+    go true t e k = omega arith
+    go false true e k = omega arith
+    go false false true k = omega arith
+    go false false false true = omega arith
+    go false false false false = omega arith
 
-Q-lines-form : (k : ℕ) {ms : List Line} → k ≤ 3 → Each Q-formed-line ms → lines-form k ms ≡ true
+Q-lines-form : (k : ℕ) {ms : List Line} → k ≤ 4 → Each Q-formed-line ms → lines-form k ms ≡ true
 unfolding lines-form
 Q-lines-form k h none = refl
 Q-lines-form k h (more {x = m} {xs = ms} q qs) =
     let e = q .last-kind in and-of (and-of (q .formed) (le-leb k (kind m) (omega arith))) (Q-lines-form (kind m) (omega arith) qs)
 
-pub form-append : (k : ℕ) (ls : List Line) {ms : List Line} → k ≤ 3 → lines-form k ls ≡ true → Each Q-formed-line ms → lines-form k (ls ++ ms) ≡ true
+pub form-append : (k : ℕ) (ls : List Line) {ms : List Line} → k ≤ 4 → lines-form k ls ≡ true → Each Q-formed-line ms → lines-form k (ls ++ ms) ≡ true
 unfolding lines-form
 form-append k [] h p qs = Q-lines-form k h qs
 form-append k (l ∷ ls) h p qs =

@@ -73,7 +73,7 @@ module _ {f : Four} {v : ℕ} (w : Line-four f v) where
   unfolding line-form Q-of
   Q-formed = and-of (and-of refl Q-fields) (ap rising Q-four ∙ w .up)
 
-  pub Q-kind : kind (Q-of f v) ≡ 3
+  pub Q-kind : kind (Q-of f v) ≡ 4
   unfolding kind Q-of
   Q-kind = refl
 

@@ -3,7 +3,7 @@ use mathlib.Core.Path.{_≡_, refl, sym, ap, _∙_}
 use mathlib.Core.Bool.{Bool, true, false, _&&_, _||_, cond}
 use mathlib.Core.List.{List, [], _∷_, _++_, map}
 use mathlib.Core.Option.{some, none}
-use Prim.Native.Nat.{ℕ, suc, _≤_, _<_, min}
+use Prim.Native.Nat.{ℕ, suc, _/_, _≤_, _<_, min}
 use native.Mathlib.Omega.{arith}
 use borrow.Author.Tests.{eqb-true, eq-eqb, leb-false, le-leb}
 use lib.Dec.{leb, eqb}
@@ -15,7 +15,7 @@ use Rattle.geometry.specs.declared.tetrahedron.Four.{Four}
 use Rattle.laws.specs.Laws.{choose}
 use Rattle.laws.specs.Check.{job-refusal}
 use Rattle.laws.specs.Fours.{all-fours}
-use Rattle.laws.specs.Lists.{Lists}
+use Rattle.laws.specs.Lists.{job-lists}
 use Rattle.laws.specs.inner.Members.{In}
 use Rattle.laws.proofs.Basics.Tests.{and-true, and-of, or-false}
 use Rattle.laws.proofs.Basics.Lists.{Each, none, more}
@@ -24,18 +24,18 @@ use Rattle.laws.proofs.Order.Sorted.{Well-formed}
 use Rattle.laws.proofs.Order.TablePlace.{fours-most}
 use Rattle.laws.proofs.Order.Binomials.{choose-monotone}
 use Rattle.bench_rules.proofs.Mesh.Millionths.{millionths-between}
-use Rattle.text.specs.Text.{letter-P, letter-T, letter-E, letter-Q, text-limit, ends-well, Line, text-lines, line-form, kind, lines-form, text-form, coordinate, value, four-in, only, fields-with, has-four, Q-bad, Q-entry, text-table, lists, text-lists, read, read-refusal, text-refusal}
+use Rattle.text.specs.Text.{letter-P, letter-T, letter-E, letter-K, letter-Q, text-limit, ends-well, Line, text-lines, line-form, kind, lines-form, text-form, coordinate, value, four-in, only, fields-with, has-four, Q-bad, Q-entry, text-table, lists, text-lists, read, read-refusal, text-refusal}
 use Rattle.text.specs.inner.Runs.{is-kind}
 use Rattle.text.proofs.Tables.FourPlaces.{fours-count, well-at}
 use Rattle.text.proofs.Tables.RisingLines.{line-rises}
 use Rattle.measuring.specs.Filling.{filled, measured-table}
 use Rattle.q_lines.specs.Completion.{missing-lines, missing-of, early, completion-refusal, completed-as, completed, measured-lists, Completed-reads, Completed-short}
-use Rattle.q_lines.proofs.Accepted.{Accepted, accepted}
+use Rattle.q_lines.proofs.Accepted.{Threes, Accepted, accepted}
 use Rattle.q_lines.proofs.QForm.{line-four}
 use Rattle.q_lines.proofs.Appending.{text-append, ends-append, form-append, other-fields, Q-only, Q-formed-line}
 use Rattle.q_lines.proofs.Missing.{Measured-entry, lines-for, added-formed, completed-good, completed-entries}
 use Rattle.q_lines.proofs.MissingBytes.{lines-read, lines-ended, lines-long}
-use Rattle.q_lines.proofs.Sizes.{text-long}
+use Rattle.q_lines.proofs.Sizes.{threes-small, text-long}
 use Rattle.q_lines.proofs.Spare.{spare-all}
 
 -- ---- what is known of a four's measured entry
@@ -64,11 +64,11 @@ all-known n few ps none = none
 all-known n few ps (more {x = f} w ws) = more (known n few ps f w) (all-known n few ps ws)
 
 -- ---- the Q lines of a text of the form stand for fours of its points
-Q-kind : (l : Line) → l .letter ≡ letter-Q → kind l ≡ 3
+Q-kind : (l : Line) → l .letter ≡ letter-Q → kind l ≡ 4
 unfolding kind
 Q-kind l e = rw e refl
 
-only-Q-kinds : (k : ℕ) (ls : List Line) → lines-form k ls ≡ true → Each (λ l. is-kind 3 l ≡ true) (only letter-Q ls)
+only-Q-kinds : (k : ℕ) (ls : List Line) → lines-form k ls ≡ true → Each (λ l. is-kind 4 l ≡ true) (only letter-Q ls)
 unfolding only lines-form is-kind
 only-Q-kinds k [] p = none
 only-Q-kinds k (l ∷ ls) p =
@@ -76,12 +76,12 @@ only-Q-kinds k (l ∷ ls) p =
     go (eqb (l .letter) letter-Q) refl (and-true (line-form l) (leb k (kind l)) (q .0) .0) (only-Q-kinds (kind l) ls (q .1))
   where
     go :
-        (t : Bool) → eqb (l .letter) letter-Q ≡ t → line-form l ≡ true → Each (λ l. is-kind 3 l ≡ true) (only letter-Q ls) →
-        Each (λ l. is-kind 3 l ≡ true) (cond t (l ∷ []) [] ++ only letter-Q ls)
-    go true e f r = more (and-of f (eq-eqb (kind l) 3 (Q-kind l (eqb-true (l .letter) letter-Q e)))) r
+        (t : Bool) → eqb (l .letter) letter-Q ≡ t → line-form l ≡ true → Each (λ l. is-kind 4 l ≡ true) (only letter-Q ls) →
+        Each (λ l. is-kind 4 l ≡ true) (cond t (l ∷ []) [] ++ only letter-Q ls)
+    go true e f r = more (and-of f (eq-eqb (kind l) 4 (Q-kind l (eqb-true (l .letter) letter-Q e)))) r
     go false e f r = r
 
-placed : (n : ℕ) {ls : List Line} → Each (λ l. is-kind 3 l ≡ true) ls → Q-bad n ls ≡ false → Each (λ l. In (four-in l) (all-fours n)) ls
+placed : (n : ℕ) {ls : List Line} → Each (λ l. is-kind 4 l ≡ true) ls → Q-bad n ls ≡ false → Each (λ l. In (four-in l) (all-fours n)) ls
 unfolding Q-bad
 placed n none p = none
 placed n (more {x = l} {xs = ls} k ks) p =
@@ -102,7 +102,7 @@ table-is : (n : ℕ) (qs : List Line) → Q-bad n qs ≡ false → text-table n 
 unfolding text-table
 table-is n qs p = rw p refl
 
--- ---- a text that numbers 1 to 11 do not refuse
+-- ---- a text that no number but 12 and 13 refuses
 record Whole-text (bs : List ℕ) : Type 0 where
   ends : ends-well bs ≡ true
   form : lines-form 0 (text-lines bs) ≡ true
@@ -120,9 +120,8 @@ whole-text bs e = go (text-form bs) refl e
         let b = and-true (ends-well bs) (lines-form 0 (text-lines bs)) (a .1) in record { ends = b .0; form = b .1; number = q; limits = accepted (text-lists bs) q }
 
 same-lists :
-    {ps qs vs ws : List ℤ} {ts us ks es : List ℕ} → ps ≡ qs → ts ≡ us → ks ≡ es → vs ≡ ws →
-    _≡_ {A = Lists} (record { points = ps; triangles = ts; kept = ks; table = vs }) (record { points = qs; triangles = us; kept = es; table = ws })
-same-lists p t k v = rw (p, t, k, v) refl
+    {ps qs vs ws : List ℤ} {ts us es ds ks is : List ℕ} → ps ≡ qs → ts ≡ us → es ≡ ds → ks ≡ is → vs ≡ ws → job-lists ps ts es ks vs ≡ job-lists qs us ds is ws
+same-lists p t e k v = rw (p, t, e, k, v) refl
 
 module _ (bs : List ℕ) (w : Whole-text bs) where
   abbrev the-lines : List Line
@@ -173,20 +172,29 @@ module _ (bs : List ℕ) (w : Whole-text bs) where
   formed : Each Q-formed-line new-lines
   formed = added-formed count Q-lines E all
 
-  -- 480 for 16 P lines, 15,120 for 560 T lines, 2,160 for 120 E lines, 40,040 for the Q lines of 1,820 fours
+  -- the numbers of a list of triangles, as the lines have them
+  small-fields : (x : ℕ) → Threes count (map value (fields-with x the-lines)) → Each (λ (u : List ℕ). value u < 16) (fields-with x the-lines)
+  small-fields x t =
+      let l = length-map (fields-with x the-lines) value in
+      threes-small count few (length (map value (fields-with x the-lines)) / 3) (fields-with x the-lines) (sym l ∙ t .whole) (t .good)
+
+  -- 480 for 16 P lines, 6,720 for 560 T lines, 2,160 for 120 E lines, 6,720 for 560 K lines, 40,040 for the Q lines of 1,820 fours
   bytes-short : length (bs ++ more-bytes) ≤ 57800
   unfolding lists fields-with
   bytes-short =
-      let t = text-long count few bs (w .ends) (w .form) good in
+      let t =
+      text-long count few bs (w .ends) (w .form)
+      (record { triangles = small-fields letter-T (w .limits .triangles); inners = small-fields letter-K (w .limits .inner); fours = good }) in
       let m = lines-long count Q-lines E all in
       let s = spare-all count (all-fours count) (placed count (only-Q-kinds 0 the-lines (w .form)) good) good in
       let n = fours-count count few in
       let k = fours-most count few in
       let p = w .limits .points in
-      let q = w .limits .triangles in
+      let q = w .limits .triangles .short in
       let r = w .limits .kept in
+      let i = w .limits .inner .short in
       let a = length-append bs more-bytes in
-      omega (arith, points-long, triangles-long, kept-long)
+      omega (arith, points-long, triangles-long, kept-long, inner-long)
     where
       points-long : length (fields-with letter-P the-lines) ≡ length (text-lists bs .points)
       points-long = sym (length-map (fields-with letter-P the-lines) coordinate)
@@ -196,6 +204,9 @@ module _ (bs : List ℕ) (w : Whole-text bs) where
 
       kept-long : length (fields-with letter-E the-lines) ≡ length (text-lists bs .kept)
       kept-long = sym (length-map (fields-with letter-E the-lines) value)
+
+      inner-long : length (fields-with letter-K the-lines) ≡ length (text-lists bs .inner)
+      inner-long = sym (length-map (fields-with letter-K the-lines) value)
 
   completed-formed : text-form (bs ++ more-bytes) ≡ true
   unfolding text-form
@@ -225,6 +236,7 @@ module _ (bs : List ℕ) (w : Whole-text bs) where
   lists-are =
       ap lists lines-are
       ∙ same-lists same-points (ap (map value) (other-fields the-lines formed letter-T refl)) (ap (map value) (other-fields the-lines formed letter-E refl))
+      (ap (map value) (other-fields the-lines formed letter-K refl))
       (ap (λ (ps : List ℤ). text-table (min (length (points-in ps)) 16) (only letter-Q (the-lines ++ new-lines))) same-points ∙ new-table)
 
   read-back : read (bs ++ more-bytes) ≡ some (measured-lists (text-lists bs))

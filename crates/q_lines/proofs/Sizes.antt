@@ -3,16 +3,18 @@ use mathlib.Core.Path.{_≡_, refl, sym, _∙_}
 use mathlib.Core.Bool.{Bool, true, false, _&&_, _||_, cond}
 use mathlib.Core.Logic.{⊎-elim}
 use mathlib.Core.List.{List, [], _∷_, _++_, map}
-use Prim.Native.Nat.{ℕ, suc, _+_, _*_, _≤_, _<_}
+use Prim.Native.Nat.{ℕ, zero, suc, _+_, _*_, _≤_, _<_}
 use native.Mathlib.Nat.{mul-suc}
 use native.Mathlib.Omega.{arith}
 use borrow.Author.Tests.{eqb-true, ltb-true, leb-false}
 use lib.Dec.{leb, ltb, eqb}
 use lib.ListN.{length, length-append}
 use Rattle.geometry.specs.Space.{four}
-use Rattle.laws.specs.Laws.{rising}
+use Rattle.laws.specs.Laws.{tri, rising}
+use Rattle.laws.specs.Check.{tris-in, tri-bad, any-tri-bad}
 use Rattle.laws.proofs.Basics.Tests.{contradiction, and-true, or-true, or-false}
-use Rattle.text.specs.Text.{LF, comma, minus-sign, letter-P, letter-T, letter-E, letter-Q, in-first, new-or-in-first, lines-of, fields-of, ends-well, Line, letter-in, line-in, text-lines, number-form, well-begun, all-digits, coordinate-form, value, all-fields, four-in, line-form, kind, lines-form, only, fields-with, Q-bad, has-four}
+use Rattle.laws.proofs.Basics.Lists.{Each, none, more}
+use Rattle.text.specs.Text.{LF, comma, minus-sign, letter-P, letter-T, letter-E, letter-K, letter-Q, in-first, new-or-in-first, lines-of, fields-of, ends-well, Line, letter-in, line-in, text-lines, number-form, well-begun, all-digits, coordinate-form, value, all-fields, four-in, line-form, kind, lines-form, only, fields-with, Q-bad, has-four}
 use Rattle.text.proofs.Numbers.Digits.{begun-short}
 use Rattle.text.proofs.Lines.Fields.{fields-some}
 use Rattle.q_lines.proofs.Digits.{small-short}
@@ -102,19 +104,34 @@ fields-size t most h (w ∷ ws) p =
 share : Line → ℕ
 share l =
     10 * length (cond (eqb (l .letter) letter-P) (l .fields) [])
-    + 9 * length (cond (eqb (l .letter) letter-T) (l .fields) [])
+    + 4 * length (cond (eqb (l .letter) letter-T) (l .fields) [])
     + 9 * length (cond (eqb (l .letter) letter-E) (l .fields) [])
+    + 4 * length (cond (eqb (l .letter) letter-K) (l .fields) [])
     + 22 * length (cond (eqb (l .letter) letter-Q) (l ∷ []) [])
 
--- the fours of Q lines are of 16 points
-abbrev Near : Line → Type 0
-Near l = eqb (l .letter) letter-Q ≡ true → four-in l .d < 16
+-- numbers of 16 points, which have two digits at most
+abbrev Small : List (List ℕ) → Type 0
+Small ws = Each (λ (w : List ℕ). value w < 16) ws
+
+-- the triangles of T and K lines and the fours of Q lines are of 16 points
+record Near (l : Line) : Type 0 where
+  triangle : eqb (l .letter) letter-T ≡ true → Small (l .fields)
+  inner : eqb (l .letter) letter-K ≡ true → Small (l .fields)
+  four : eqb (l .letter) letter-Q ≡ true → four-in l .d < 16
 
 P-share : (ws : List (List ℕ)) → eqb (length ws) 3 ≡ true → all-fields coordinate-form ws ≡ true → 2 + weight ws ≤ 10 * length ws
 P-share ws n p = let e = eqb-true (length ws) 3 n in let h = fields-size coordinate-form 8 coordinate-short ws p in omega arith
 
-T-share : (ws : List (List ℕ)) → eqb (length ws) 3 ≡ true → all-fields number-form ws ≡ true → 2 + weight ws ≤ 9 * length ws
-T-share ws n p = let e = eqb-true (length ws) 3 n in let h = fields-size number-form 7 number-short ws p in omega arith
+small-size : {ws : List (List ℕ)} → all-fields number-form ws ≡ true → Small ws → weight ws ≤ 3 * length ws
+unfolding weight all-fields
+small-size p none = omega arith
+small-size p (more {x = w} {xs = ws} h hs) =
+    let q = and-true (number-form w) (all-fields number-form ws) p in
+    let a = small-short w (q .0) h in
+    let b = small-size (q .1) hs in omega arith
+
+three-share : (ws : List (List ℕ)) → eqb (length ws) 3 ≡ true → all-fields number-form ws ≡ true → Small ws → 2 + weight ws ≤ 4 * length ws
+three-share ws n p s = let e = eqb-true (length ws) 3 n in let h = small-size p s in omega arith
 
 E-share : (ws : List (List ℕ)) → eqb (length ws) 2 ≡ true → all-fields number-form ws ≡ true → 2 + weight ws ≤ 9 * length ws
 E-share ws n p = let e = eqb-true (length ws) 2 n in let h = fields-size number-form 7 number-short ws p in omega arith
@@ -154,31 +171,38 @@ line-share l p near =
     let P = eqb (l .letter) letter-P in
     let T = eqb (l .letter) letter-T in
     let E = eqb (l .letter) letter-E in
+    let K = eqb (l .letter) letter-K in
     let Q = eqb (l .letter) letter-Q in
     let a = all-fields number-form ws in
     let b = all-fields coordinate-form ws in
     ⊎-elim
     (λ q. ⊎-elim
     (λ r. (let s = and-true P (eqb m 3 && b) r in let u = and-true (eqb m 3) b (s .1) in by-P (s .0) (P-share ws (u .0) (u .1))))
-    (λ r. (let s = and-true T (eqb m 3 && a) r in let u = and-true (eqb m 3) a (s .1) in by-T (s .0) (T-share ws (u .0) (u .1))))
+    (λ r. (let s = and-true T (eqb m 3 && a) r in let u = and-true (eqb m 3) a (s .1) in by-T (s .0) (three-share ws (u .0) (u .1) (near .triangle (s .0)))))
     (or-true (P && (eqb m 3 && b)) (T && (eqb m 3 && a)) q))
     (λ q. ⊎-elim
     (λ r. (let s = and-true E (eqb m 2 && a) r in let u = and-true (eqb m 2) a (s .1) in by-E (s .0) (E-share ws (u .0) (u .1))))
-    (λ r.
-    (let s = and-true Q ((eqb m 5 && a) && rising (four-in l)) r in
+    (λ r. ⊎-elim
+    (λ z. (let s = and-true K (eqb m 3 && a) z in let u = and-true (eqb m 3) a (s .1) in by-K (s .0) (three-share ws (u .0) (u .1) (near .inner (s .0)))))
+    (λ z.
+    (let s = and-true Q ((eqb m 5 && a) && rising (four-in l)) z in
     let t = and-true (eqb m 5 && a) (rising (four-in l)) (s .1) in
-    let u = and-true (eqb m 5) a (t .0) in by-Q (s .0) (Q-share (l .letter) ws (u .0) (u .1) (t .1) (near (s .0)))))
-    (or-true (E && (eqb m 2 && a)) (Q && ((eqb m 5 && a) && rising (four-in l))) q))
-    (or-true ((P && (eqb m 3 && b)) || (T && (eqb m 3 && a))) ((E && (eqb m 2 && a)) || (Q && ((eqb m 5 && a) && rising (four-in l)))) p)
+    let u = and-true (eqb m 5) a (t .0) in by-Q (s .0) (Q-share (l .letter) ws (u .0) (u .1) (t .1) (near .four (s .0)))))
+    (or-true (K && (eqb m 3 && a)) (Q && ((eqb m 5 && a) && rising (four-in l))) r))
+    (or-true (E && (eqb m 2 && a)) ((K && (eqb m 3 && a)) || (Q && ((eqb m 5 && a) && rising (four-in l)))) q))
+    (or-true ((P && (eqb m 3 && b)) || (T && (eqb m 3 && a))) ((E && (eqb m 2 && a)) || ((K && (eqb m 3 && a)) || (Q && ((eqb m 5 && a) && rising (four-in l))))) p)
   where
     by-P : eqb (l .letter) letter-P ≡ true → 2 + weight (l .fields) ≤ 10 * length (l .fields) → size l ≤ share l
     by-P e h = rw e (omega arith)
 
-    by-T : eqb (l .letter) letter-T ≡ true → 2 + weight (l .fields) ≤ 9 * length (l .fields) → size l ≤ share l
+    by-T : eqb (l .letter) letter-T ≡ true → 2 + weight (l .fields) ≤ 4 * length (l .fields) → size l ≤ share l
     by-T e h = rw e (omega arith)
 
     by-E : eqb (l .letter) letter-E ≡ true → 2 + weight (l .fields) ≤ 9 * length (l .fields) → size l ≤ share l
     by-E e h = rw e (omega arith)
+
+    by-K : eqb (l .letter) letter-K ≡ true → 2 + weight (l .fields) ≤ 4 * length (l .fields) → size l ≤ share l
+    by-K e h = rw e (omega arith)
 
     by-Q : eqb (l .letter) letter-Q ≡ true → 2 + weight (l .fields) ≤ 22 → size l ≤ share l
     by-Q e h = rw e (omega arith)
@@ -186,7 +210,11 @@ line-share l p near =
 -- ---- all lines
 lists-size : List Line → ℕ
 lists-size ls =
-    10 * length (fields-with letter-P ls) + 9 * length (fields-with letter-T ls) + 9 * length (fields-with letter-E ls) + 22 * length (only letter-Q ls)
+    10 * length (fields-with letter-P ls)
+    + 4 * length (fields-with letter-T ls)
+    + 9 * length (fields-with letter-E ls)
+    + 4 * length (fields-with letter-K ls)
+    + 22 * length (only letter-Q ls)
 
 lists-more : (l : Line) (ls : List Line) → lists-size (l ∷ ls) ≡ share l + lists-size ls
 unfolding lists-size fields-with only share
@@ -194,12 +222,54 @@ lists-more l ls =
     let p = length-append (cond (eqb (l .letter) letter-P) (l .fields) []) (fields-with letter-P ls) in
     let t = length-append (cond (eqb (l .letter) letter-T) (l .fields) []) (fields-with letter-T ls) in
     let e = length-append (cond (eqb (l .letter) letter-E) (l .fields) []) (fields-with letter-E ls) in
+    let k = length-append (cond (eqb (l .letter) letter-K) (l .fields) []) (fields-with letter-K ls) in
     let q = length-append (cond (eqb (l .letter) letter-Q) (l ∷ []) []) (only letter-Q ls) in omega arith
 
+-- the numbers of triangles that none of n points is absent from
+three-small : (n a b c : ℕ) → n ≤ 16 → tri-bad n (tri a b c) ≡ false → (a < 16) × (b < 16) × (c < 16)
+unfolding tri-bad tri
+three-small n a b c few e =
+    let o = or-false (leb n a || (leb n b || leb n c)) (eqb a b || (eqb b c || eqb a c)) e in
+    let p = or-false (leb n a) (leb n b || leb n c) (o .0) in
+    let q = or-false (leb n b) (leb n c) (p .1) in
+    let x = leb-false n a (p .0) in
+    let y = leb-false n b (q .0) in
+    let z = leb-false n c (q .1) in (omega arith, omega arith, omega arith)
+
+pub threes-small : (n : ℕ) → n ≤ 16 → (k : ℕ) (ws : List (List ℕ)) → length ws ≡ k * 3 → any-tri-bad n (tris-in k (map value ws)) ≡ false → Small ws
+unfolding any-tri-bad tris-in
+threes-small n few k [] e p = none
+threes-small n few zero (a ∷ ws) e p = absurd (omega arith)
+threes-small n few (suc k) (a ∷ []) e p = absurd (omega arith)
+threes-small n few (suc k) (a ∷ b ∷ []) e p = absurd (omega arith)
+threes-small n few (suc k) (a ∷ b ∷ c ∷ ws) e p =
+    let q = or-false (tri-bad n (tri (value a) (value b) (value c))) (any-tri-bad n (tris-in k (map value ws))) p in
+    let s = three-small n (value a) (value b) (value c) few (q .0) in
+    more (s .0) (more (s .1) (more (s .2) (threes-small n few k ws (omega arith) (q .1))))
+
+-- every line with a letter has the letter's fields
+small-of : (x : ℕ) (l : Line) (ls : List Line) → Small (fields-with x (l ∷ ls)) → (eqb (l .letter) x ≡ true → Small (l .fields)) × Small (fields-with x ls)
+unfolding fields-with
+small-of x l ls s = go (eqb (l .letter) x) s
+  where
+    parts : (ws vs : List (List ℕ)) → Small (ws ++ vs) → Small ws × Small vs
+    parts [] vs s = (none, s)
+    parts (w ∷ ws) vs (more h hs) = let r = parts ws vs hs in (more h (r .0), r .1)
+
+    go : (t : Bool) → Small (cond t (l .fields) [] ++ fields-with x ls) → (t ≡ true → Small (l .fields)) × Small (fields-with x ls)
+    go true s = let r = parts (l .fields) (fields-with x ls) s in (λ e. r .0, r .1)
+    go false s = (λ e. contradiction e refl, s)
+
 module _ (n : ℕ) (few : n ≤ 16) where
-  near-of : (l : Line) (ls : List Line) → Q-bad n (only letter-Q (l ∷ ls)) ≡ false → Near l × (Q-bad n (only letter-Q ls) ≡ false)
+  -- no triangle and no Q line names an absent point
+  pub record All-near (ls : List Line) : Type 0 where
+    pub triangles : Small (fields-with letter-T ls)
+    pub inners : Small (fields-with letter-K ls)
+    pub fours : Q-bad n (only letter-Q ls) ≡ false
+
+  four-of-Q : (l : Line) (ls : List Line) → Q-bad n (only letter-Q (l ∷ ls)) ≡ false → (eqb (l .letter) letter-Q ≡ true → four-in l .d < 16) × (Q-bad n (only letter-Q ls) ≡ false)
   unfolding only Q-bad
-  near-of l ls p = go (eqb (l .letter) letter-Q) p
+  four-of-Q l ls p = go (eqb (l .letter) letter-Q) p
     where
       go : (t : Bool) → Q-bad n (cond t (l ∷ []) [] ++ only letter-Q ls) ≡ false → (t ≡ true → four-in l .d < 16) × (Q-bad n (only letter-Q ls) ≡ false)
       go true q =
@@ -208,7 +278,14 @@ module _ (n : ℕ) (few : n ≤ 16) where
           (λ e. omega arith, or-false (has-four (four-in l) (only letter-Q ls)) (Q-bad n (only letter-Q ls)) (a .1) .1)
       go false q = (λ e. contradiction e refl, q)
 
-  lines-share : (k : ℕ) (ls : List Line) → lines-form k ls ≡ true → Q-bad n (only letter-Q ls) ≡ false → sizes ls ≤ lists-size ls
+  near-of : (l : Line) (ls : List Line) → All-near (l ∷ ls) → Near l × All-near ls
+  near-of l ls a =
+      let t = small-of letter-T l ls (a .triangles) in
+      let k = small-of letter-K l ls (a .inners) in
+      let q = four-of-Q l ls (a .fours) in
+      (record { triangle = t .0; inner = k .0; four = q .0 }, record { triangles = t .1; inners = k .1; fours = q .1 })
+
+  lines-share : (k : ℕ) (ls : List Line) → lines-form k ls ≡ true → All-near ls → sizes ls ≤ lists-size ls
   unfolding lines-form sizes
   lines-share k [] p q = omega arith
   lines-share k (l ∷ ls) p q =
@@ -219,7 +296,9 @@ module _ (n : ℕ) (few : n ≤ 16) where
       let c = lists-more l ls in omega arith
 
   pub text-long :
-      (bs : List ℕ) → ends-well bs ≡ true → lines-form 0 (text-lines bs) ≡ true → Q-bad n (only letter-Q (text-lines bs)) ≡ false →
-      length bs ≤ 10 * length (fields-with letter-P (text-lines bs)) + 9 * length (fields-with letter-T (text-lines bs)) + 9 * length (fields-with letter-E (text-lines bs)) + 22 * length (only letter-Q (text-lines bs))
+      (bs : List ℕ) → ends-well bs ≡ true → lines-form 0 (text-lines bs) ≡ true → All-near (text-lines bs) →
+      length bs
+      ≤ 10 * length (fields-with letter-P (text-lines bs)) + 4 * length (fields-with letter-T (text-lines bs)) + 9 * length (fields-with letter-E (text-lines bs)) + 4 * length (fields-with letter-K (text-lines bs))
+      + 22 * length (only letter-Q (text-lines bs))
   unfolding lists-size
   text-long bs h p q = let a = text-size bs h p in let b = lines-share 0 (text-lines bs) p q in omega arith

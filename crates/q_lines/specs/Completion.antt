@@ -1,10 +1,10 @@
 -- A COMPLETED TEXT: the text, then a measured Q line for each solid four that has none; or a refusal's line. Assumes nothing: these are definitions and a statement.
 use mathlib.Core.Path.{_≡_}
-use mathlib.Core.Bool.{cond}
+use mathlib.Core.Bool.{_||_, cond}
 use mathlib.Core.List.{List, [], _∷_, _++_}
 use mathlib.Core.Option.{some}
 use Prim.Native.Nat.{ℕ, zero, suc, _≤_, _<_}
-use lib.Dec.{leb}
+use lib.Dec.{eqb}
 use lib.ListN.{length}
 use lib.IntN.{ℤ, pos, negsuc}
 use Rattle.geometry.specs.Space.{points-in}
@@ -36,9 +36,9 @@ missing-lines (f ∷ fs) (v ∷ vs) (m ∷ ms) = missing-line f v m ++ missing-l
 unfoldable pub missing-of : (points table : List ℤ) → List ℕ
 missing-of cs qs = missing-lines (all-fours (length (points-in cs))) qs (measured-table cs)
 
--- numbers 1 to 11. 12 is left to whoever reads the completed text, and 13 is what completing mends.
+-- every number but 12, which is left to whoever reads the completed text, and 13, which is what completing mends
 unfoldable pub early : ℕ → ℕ
-early n = cond (leb n 11) n 0
+early n = cond (eqb n 12 || eqb n 13) 0 n
 
 unfoldable pub completion-refusal : (text : List ℕ) → ℕ
 completion-refusal bs = early (text-refusal bs)
@@ -65,6 +65,7 @@ measured-lists l =
       points = l .points;
       triangles = l .triangles;
       kept = l .kept;
+      inner = l .inner;
       table = filled (l .table) (measured-table (l .points));
     }
 

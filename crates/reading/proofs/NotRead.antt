@@ -21,11 +21,12 @@ not-read text p r e arrays =
     let a : r .points ≡ 0 = ap (λ (x : Read). x .points) e in
     let b : r .triangles ≡ 0 = ap (λ (x : Read). x .triangles) e in
     let c : r .kept ≡ 0 = ap (λ (x : Read). x .kept) e in
-    let d : r .table ≡ 0 = ap (λ (x : Read). x .table) e in
+    let d : r .inner ≡ 0 = ap (λ (x : Read). x .inner) e in
+    let f : r .table ≡ 0 = ap (λ (x : Read). x .table) e in
     record {
       form = o ∙ sym p;
       refused = λ _. e;
-      fits = record { points = omega arith; triangles = omega arith; kept = omega arith; table = omega arith };
+      fits = record { points = omega arith; triangles = omega arith; kept = omega arith; inner = omega arith; table = omega arith };
       clips = λ t. contradiction t o;
       refuses = λ t. contradiction t o;
       accepts = λ t. contradiction t o;

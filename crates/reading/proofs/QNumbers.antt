@@ -15,10 +15,10 @@ use Rattle.reading.specs.declared.run.Next.{Next}
 use Rattle.reading.specs.inner.Runs.{Line-at}
 
 -- ---- the numbers of a Q line
-module _ (text : List ℕ) (at : ℕ) (q : Next) (l : Line-at 3 text at q) where
+module _ (text : List ℕ) (at : ℕ) (q : Next) (l : Line-at 4 text at q) where
   entry-number : (i : ℕ) → i < 5 → getD (q .values) i (pos 0) ≡ pos (getD (map value (l .line .fields)) i 0)
   unfolding width
-  entry-number = number-at (l .line .fields) (q .values) 5 (line-unsigned 3 (l .line) (l .right) (λ e. omega arith)) (l .numbers)
+  entry-number = number-at (l .line .fields) (q .values) 5 (line-unsigned 4 (l .line) (l .right) (λ e. omega arith)) (l .numbers)
 
   pub four-is : four-of (q .values) ≡ four-in (l .line)
   unfolding four-of whole four-in four

@@ -35,8 +35,8 @@ pub record Tabling (n : ℕ) (text : List ℕ) (from : ℕ) (table : List ℤ) (
   pub start : Line-start text at
   pub room : length table ≡ 1820
   pub read : List Line
-  pub lines : run 3 (text-lines (drop from text)) ≡ read ++ run 3 (text-lines (drop at text))
-  pub rest : after 3 (text-lines (drop from text)) ≡ after 3 (text-lines (drop at text))
+  pub lines : run 4 (text-lines (drop from text)) ≡ read ++ run 4 (text-lines (drop at text))
+  pub rest : after 4 (text-lines (drop from text)) ≡ after 4 (text-lines (drop at text))
   pub right : good ≡ not (Q-bad n read)
   pub entries : good ≡ true → (f : Four) → Well-formed n f → getD table (place n f) (negsuc 0) ≡ Q-entry read f
 
@@ -58,7 +58,7 @@ tabling-none n h text from table e s =
 
 -- ---- one line more
 module _ {n : ℕ} {text : List ℕ} {from : ℕ} {table : List ℤ} {at : ℕ} {good : Bool} (h : n ≤ 16) (s : Tabling n text from table at good) where
-  module _ (q : Next) (l : Line-at 3 text at q) (new : List ℤ) (r : Bool) (e : Entered n (q .values) table new r) where
+  module _ (q : Next) (l : Line-at 4 text at q) (new : List ℤ) (r : Bool) (e : Entered n (q .values) table new r) where
     free-is : good ≡ true → r ≡ not (leb n (four-in (l .line) .d) || has-four (four-in (l .line)) (s .read))
     free-is g =
         taken-is n h (s .read) (l .line) table (s .room) (s .entries g) (l .right) r
@@ -82,9 +82,9 @@ module _ {n : ℕ} {text : List ℕ} {from : ℕ} {table : List ℤ} {at : ℕ} 
           read = s .read ++ l .line ∷ [];
           lines =
               s .lines
-              ∙ ap (λ (ls : List Line). s .read ++ ls) (ap (run 3) (l .first) ∙ run-more 3 (l .line) later (l .right))
-              ∙ sym (append-snoc (s .read) (l .line) (run 3 later));
-          rest = s .rest ∙ ap (after 3) (l .first) ∙ after-more 3 (l .line) later (l .right);
+              ∙ ap (λ (ls : List Line). s .read ++ ls) (ap (run 4) (l .first) ∙ run-more 4 (l .line) later (l .right))
+              ∙ sym (append-snoc (s .read) (l .line) (run 4 later));
+          rest = s .rest ∙ ap (after 4) (l .first) ∙ after-more 4 (l .line) later (l .right);
           right = still-right good refl ∙ ap not (sym (bad-more n (s .read) (l .line)));
           entries = λ p f w.
               (let g = and-true good r p in
@@ -97,9 +97,9 @@ module _ {n : ℕ} {text : List ℕ} {from : ℕ} {table : List ℤ} {at : ℕ} 
         }
 
   -- ---- the whole table
-  module _ (p : starts 3 (text-lines (drop at text)) ≡ false) where
-    read-all : s .read ≡ run 3 (text-lines (drop from text))
-    read-all = sym (s .lines ∙ ap (λ (ls : List Line). s .read ++ ls) (run-none 3 (text-lines (drop at text)) p) ∙ append-nil (s .read))
+  module _ (p : starts 4 (text-lines (drop at text)) ≡ false) where
+    read-all : s .read ≡ run 4 (text-lines (drop from text))
+    read-all = sym (s .lines ∙ ap (λ (ls : List Line). s .read ++ ls) (run-none 4 (text-lines (drop at text)) p) ∙ append-nil (s .read))
 
     full-table : good ≡ true → take (choose n 4) table ≡ map (Q-entry (s .read)) (all-fours n)
     full-table g =
@@ -122,7 +122,7 @@ module _ {n : ℕ} {text : List ℕ} {from : ℕ} {table : List ℤ} {at : ℕ} 
     tabling-done =
         record {
           stop = s .start;
-          rest = sym (s .rest ∙ after-none 3 (text-lines (drop at text)) p);
+          rest = sym (s .rest ∙ after-none 4 (text-lines (drop at text)) p);
           right = s .right ∙ ap (λ (ls : List Line). not (Q-bad n ls)) read-all;
           entries = λ g. full-table g ∙ ap (λ (ls : List Line). map (Q-entry ls) (all-fours n)) read-all;
         }

@@ -12,13 +12,14 @@ use Rattle.laws.specs.Check.{job-refusal}
 
 -- no text was read
 abbrev pub unread : Read
-unread = record { ok = false; points = 0; triangles = 0; kept = 0; table = 0 }
+unread = record { ok = false; points = 0; triangles = 0; kept = 0; inner = 0; table = 0 }
 
 -- as many numbers as the arrays hold
 pub record Counts-fit (r : Read) : Type 0 where
   pub points : r .points ≤ 51
   pub triangles : r .triangles ≤ 1683
   pub kept : r .kept ≤ 242
+  pub inner : r .inner ≤ 1683
   pub table : r .table ≤ 1820
 
 -- the lists that stand first in the arrays
@@ -28,6 +29,7 @@ handed r a =
       points = take (r .points) (a .points);
       triangles = take (r .triangles) (a .triangles);
       kept = take (r .kept) (a .kept);
+      inner = take (r .inner) (a .inner);
       table = take (r .table) (a .table);
     }
 

@@ -1,4 +1,4 @@
-// From a job text to a job's lists (document 01, Text and printout). `read_job` takes any bytes.
+// From a job text to a job's lists (document 01, Text and printout; K lines document 02). `read_job` takes any bytes.
 // Assumes nothing.
 use crate::run::read_numbers;
 use crate::run::read_points;
@@ -18,6 +18,7 @@ pub struct Read {
     pub points: usize,
     pub triangles: usize,
     pub kept: usize,
+    pub inner: usize,
     pub table: usize,
 }
 
@@ -29,6 +30,7 @@ fn unread() -> Read
         points: 0,
         triangles: 0,
         kept: 0,
+        inner: 0,
         table: 0,
     }
 }
@@ -67,9 +69,10 @@ pub fn read_job(
     points: &mut [i32; 51],
     triangles: &mut [u8; 1683],
     kept: &mut [u8; 242],
+    inner: &mut [u8; 1683],
     table: &mut [i32; 1820],
 ) -> Read
-    ensures { λ r. ⌜ Job-read (now (text .entry)) r (record { points = now (points .exit); triangles = now (triangles .exit); kept = now (kept .exit); table = now (table .exit) }) ⌝ }
+    ensures { λ r. ⌜ Job-read (now (text .entry)) r (record { points = now (points .exit); triangles = now (triangles .exit); kept = now (kept .exit); inner = now (inner .exit); table = now (table .exit) }) ⌝ }
 {
     if (65536 < text.len()) | !is_ended(text) {
         return unread();
@@ -77,9 +80,10 @@ pub fn read_job(
     let p = read_points(text, points);
     let t = read_numbers(text, p.at, 1, 3, triangles);
     let e = read_numbers(text, t.at, 2, 2, kept);
+    let k = read_numbers(text, e.at, 3, 3, inner);
     let n = tabled(p.count);
     clear(table);
-    let q = read_table(text, e.at, n, table);
+    let q = read_table(text, k.at, n, table);
     if q.at < text.len() {
         return unread();
     }
@@ -88,6 +92,7 @@ pub fn read_job(
         points: p.count,
         triangles: t.count,
         kept: e.count,
+        inner: k.count,
         table: entries(q.good, n),
     }
 }

@@ -131,7 +131,7 @@ pub(crate) fn read_points(text: &[u8], points: &mut [i32]) -> Run
     }
 }
 
-// The lines of the kind from `from` on: T, or E.
+// The lines of the kind from `from` on: T, E, or K.
 pub(crate) fn read_numbers(text: &[u8], from: usize, kind: usize, n: usize, list: &mut [u8]) -> Run
     requires { ⌜ Line-start (now text) from × (n ≡ width kind) × (kind ≡ 0 → ⊥) ⌝ }
     ensures { λ r. ⌜ Listed byte-value kind (now (text .entry)) from (now (list .entry)) (now (list .exit)) r ⌝ }

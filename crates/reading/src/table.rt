@@ -97,7 +97,7 @@ pub(crate) fn read_table(text: &[u8], from: usize, n: usize, table: &mut [i32]) 
     let mut at = from;
     let mut good = true;
     loop {
-        let l = next_line(text, at, 3);
+        let l = next_line(text, at, 4);
         if !l.ok {
             return Entries { at, good };
         }

@@ -11,13 +11,14 @@ use Rattle.laws.specs.Check.{job-refusal}
 unfoldable pub as-byte : ℕ → ℕ
 as-byte n = min n 255
 
--- 17 points, 561 triangles, 121 kept edges
+-- 17 points, 561 triangles, 121 kept edges, 561 inner triangles
 unfoldable pub clipped : Lists → Lists
 clipped l =
     record {
       points = take 51 (l .points);
       triangles = map as-byte (take 1683 (l .triangles));
       kept = map as-byte (take 242 (l .kept));
+      inner = map as-byte (take 1683 (l .inner));
       table = l .table;
     }
 

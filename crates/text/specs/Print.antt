@@ -78,7 +78,7 @@ pub record Prints (bytes old : List ℕ) (count : ℕ) (new : List ℕ) : Type 0
   pub size : count ≡ length bytes
   pub buffer : new ≡ bytes ++ drop (length bytes) old
 
--- ---- the program: 1; 2 to 13; 15; else the best filling. It lends a buffer that suffices, so it never gives 14.
+-- ---- the program: 1; the checker's number; 15; else the best filling. It lends a buffer that suffices, so it never gives 14.
 unfoldable pub Printed-lists : (refusal : ℕ) → Lists → (out : List ℕ) → Type 0
 Printed-lists zero l out = (c : Option (List Four)) × Choice (job l) c × (out ≡ choice-out (job l) c)
 Printed-lists (suc n) l out = out ≡ refusal-out (suc n)

@@ -1,4 +1,4 @@
--- JOB TEXT (document 01, Text and printout): a total function from bytes to a job's lists, or none for number 1. Assumes nothing: these are definitions.
+-- JOB TEXT (document 01, Text and printout; K lines document 02, inner triangles): a total function from bytes to a job's lists, or none for number 1. Assumes nothing: these are definitions.
 use mathlib.Core.Bool.{Bool, true, false, _&&_, _||_, not, cond}
 use mathlib.Core.List.{List, [], _∷_, _++_, map}
 use mathlib.Core.Option.{Option, none, some}
@@ -31,6 +31,9 @@ letter-T = 84
 
 abbrev pub letter-E : ℕ
 letter-E = 69
+
+abbrev pub letter-K : ℕ
+letter-K = 75
 
 abbrev pub letter-Q : ℕ
 letter-Q = 81
@@ -90,7 +93,7 @@ unfoldable pub coordinate : List ℕ → ℤ
 coordinate [] = pos 0
 coordinate (c ∷ cs) = cond (eqb c minus-sign) (minus (value cs)) (pos (value (c ∷ cs)))
 
--- ---- P,x,y,z; T,a,b,c; E,a,b; Q,a,b,c,d,v with a<b<c<d
+-- ---- P,x,y,z; T,a,b,c; E,a,b; K,a,b,c; Q,a,b,c,d,v with a<b<c<d
 pub record Line : Type 0 where
   pub letter : ℕ
   pub fields : List (List ℕ)
@@ -125,11 +128,13 @@ line-form l =
     ((eqb (l .letter) letter-P && (eqb n 3 && all-fields coordinate-form (l .fields)))
     || (eqb (l .letter) letter-T && (eqb n 3 && all-fields number-form (l .fields))))
     || ((eqb (l .letter) letter-E && (eqb n 2 && all-fields number-form (l .fields)))
-    || (eqb (l .letter) letter-Q && ((eqb n 5 && all-fields number-form (l .fields)) && rising (four-in l))))
+    || ((eqb (l .letter) letter-K && (eqb n 3 && all-fields number-form (l .fields)))
+    || (eqb (l .letter) letter-Q && ((eqb n 5 && all-fields number-form (l .fields)) && rising (four-in l)))))
 
 -- in that order of kinds
 unfoldable pub kind : Line → ℕ
-kind l = cond (eqb (l .letter) letter-P) 0 (cond (eqb (l .letter) letter-T) 1 (cond (eqb (l .letter) letter-E) 2 3))
+kind l =
+    cond (eqb (l .letter) letter-P) 0 (cond (eqb (l .letter) letter-T) 1 (cond (eqb (l .letter) letter-E) 2 (cond (eqb (l .letter) letter-K) 3 4)))
 
 unfoldable pub lines-form : (kind-before : ℕ) → List Line → Bool
 lines-form k [] = true
@@ -166,7 +171,7 @@ unfoldable pub Q-entry : (Q-lines : List Line) → Four → ℤ
 Q-entry [] f = negsuc 0
 Q-entry (l ∷ ls) f = cond (same-four f (four-in l)) (pos (value-in l)) (Q-entry ls f)
 
--- An entry for each four in order. With a bad Q there is no table: then its length, 0, is wrong, so that 11 is given in its place among 2 to 13.
+-- An entry for each four in order. With a bad Q there is no table: then its length, 0, is wrong, so that 11 is given in its place among the checker's numbers.
 unfoldable pub text-table : (n : ℕ) → (Q-lines : List Line) → List ℤ
 text-table n ls = cond (Q-bad n ls) [] (map (Q-entry ls) (all-fours n))
 
@@ -178,6 +183,7 @@ lists ls =
       points = ps;
       triangles = map value (fields-with letter-T ls);
       kept = map value (fields-with letter-E ls);
+      inner = map value (fields-with letter-K ls);
       table = text-table (min (length (points-in ps)) 16) (only letter-Q ls);
     }
 
@@ -188,7 +194,7 @@ text-lists bs = lists (text-lines bs)
 unfoldable pub read : (text : List ℕ) → Option Lists
 read bs = cond (text-form bs) (some (text-lists bs)) none
 
--- the program's refusal from the text alone: 1, or the checker's 2 to 13 with 11's text cases
+-- the program's refusal from the text alone: 1, or the checker's number with 11's text cases
 unfoldable pub read-refusal : Option Lists → ℕ
 read-refusal none = 1
 read-refusal (some l) = job-refusal l

@@ -32,11 +32,11 @@ first-bad k (suc i) (l ∷ ls) = (text.line-form l && leb k (text.kind l)) && fi
 
 -- a Q line for a four that n points do not have
 unfoldable pub absent : (n : ℕ) → text.Line → Bool
-absent n l = is-kind 3 l && leb n (text.four-in l .d)
+absent n l = is-kind 4 l && leb n (text.four-in l .d)
 
 -- a Q line for this four
 unfoldable pub for-four : Four → text.Line → Bool
-for-four f l = is-kind 3 l && same-four f (text.four-in l)
+for-four f l = is-kind 4 l && same-four f (text.four-in l)
 
 -- how many points the text has
 unfoldable pub points-of : (text : List ℕ) → ℕ

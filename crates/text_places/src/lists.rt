@@ -16,6 +16,7 @@ pub(crate) struct JobArrays {
     pub(crate) points: [i32; 51],
     pub(crate) triangles: [u8; 1683],
     pub(crate) kept: [u8; 242],
+    pub(crate) inner: [u8; 1683],
     pub(crate) table: [i32; 1820],
 }
 
@@ -25,13 +26,22 @@ pub(crate) fn read_arrays(text: &[u8]) -> JobArrays
     let mut points: [i32; 51] = [0; 51];
     let mut triangles: [u8; 1683] = [0; 1683];
     let mut kept: [u8; 242] = [0; 242];
+    let mut inner: [u8; 1683] = [0; 1683];
     let mut table: [i32; 1820] = [0; 1820];
-    let read = read_job(text, &mut points, &mut triangles, &mut kept, &mut table);
+    let read = read_job(
+        text,
+        &mut points,
+        &mut triangles,
+        &mut kept,
+        &mut inner,
+        &mut table,
+    );
     JobArrays {
         read,
         points,
         triangles,
         kept,
+        inner,
         table,
     }
 }
@@ -44,10 +54,18 @@ pub(crate) fn arrays_place(a: JobArrays) -> Placed
     let points = a.points;
     let triangles = a.triangles;
     let kept = a.kept;
+    let inner = a.inner;
     let table = a.table;
     let p = read.points;
     let t = read.triangles;
     let e = read.kept;
+    let k = read.inner;
     let q = read.table;
-    place_of(&points[..p], &triangles[..t], &kept[..e], &table[..q])
+    place_of(
+        &points[..p],
+        &triangles[..t],
+        &kept[..e],
+        &inner[..k],
+        &table[..q],
+    )
 }

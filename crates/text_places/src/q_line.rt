@@ -35,7 +35,7 @@ pub(crate) fn q_line(line: &[u8]) -> QLine
     let l = line_in(line);
     let values = l.values;
     QLine {
-        ok: l.ok & (l.kind == 3),
+        ok: l.ok & (l.kind == 4),
         four: four_of(values),
     }
 }

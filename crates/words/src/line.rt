@@ -41,11 +41,11 @@ pub(crate) fn line_at(text: &[u8], start: usize) -> &[u8] {
     &text[start..end]
 }
 
-// Whether a line is of the kind, where 4 stands for every line; of Q lines only one whose quality is too large.
+// Whether a line is of the kind, where 5 stands for every line; of Q lines only one whose quality is too large.
 fn is_sought(line: &[u8], kind: usize) -> bool {
     let l = line_in(line);
     let values = l.values;
-    (kind == 4) | ((kind == l.kind) & ((kind != 3) | (1000000 < values[4])))
+    (kind == 5) | ((kind == l.kind) & ((kind != 4) | (1000000 < values[4])))
 }
 
 // The i-th line of the kind.

@@ -14,9 +14,9 @@ const LONG_TEXT: usize = 1;
 
 const UNENDED: usize = 14;
 
-const ABSENT: usize = 27;
+const ABSENT: usize = 29;
 
-const SECOND: usize = 28;
+const SECOND: usize = 30;
 
 // A sentence is the number of its words, and the values in them in the order of their marks. For a fault in the lists the words have its number.
 fn listed(p: Placed) -> [usize; 5] {
@@ -30,6 +30,7 @@ fn listed(p: Placed) -> [usize; 5] {
         Place::Triangles(i, k) => [n, i, k, 0, 0],
         Place::Edge(a, b) => [n, a, b, 0, 0],
         Place::Kept(i) => [n, i, 0, 0, 0],
+        Place::Inner(i) => [n, i, 0, 0, 0],
         Place::Entry(_) => [n, 0, 0, 0, 0],
         Place::Unmeasured(f) => [n, f.a, f.b, f.c, f.d],
     }
@@ -47,7 +48,7 @@ fn sentence(text: &[u8]) -> [usize; 5] {
 }
 
 // Says on standard error why the text is refused, and where: number 15 where its lists are not.
-// In the words %n stands for a value, %L for the line that a value numbers, and %P, %T, %E, %Q for one of that kind.
+// In the words %n stands for a value, %L for the line that a value numbers, and %P, %T, %E, %K, %Q for one of that kind.
 pub fn say_refusal(text: &[u8]) {
     io::write_all(STDERR_FILENO, b"cavity: refused with ");
     put_part(
@@ -67,13 +68,15 @@ pub fn say_refusal(text: &[u8]) {
 12: %Q: a quality is at most 1000000\n|\
 13: the four %n,%n,%n,%n is not flat and has no Q line: measure it, or write 0 to bar it\n|\
 1: the last line does not end with LF\n|\
-1: %L: it stands behind a line of a later kind: the order is P, T, E, Q\n|\
+1: %L: it stands behind a line of a later kind: the order is P, T, E, K, Q\n|\
 1: %L: a line is not empty\n|\
 1: %L: it has a CR: a line ends with LF alone\n|\
 1: %L: it has a blank: fields are parted by commas alone\n|\
-1: %L: a line begins with P, T, E or Q and a comma\n|\
-1: %L: P and T lines have 3 numbers, E lines 2, Q lines 5\n|\
+1: %L: a line begins with P, T, E, K or Q and a comma\n|\
+1: %L: P, T and K lines have 3 numbers, E lines 2, Q lines 5\n|\
 1: %L: a number is missing\n|\
+22: there are over 560 inner triangles (K lines)\n|\
+23: %K: it names an absent point, or one point twice\n|\
 1: %L: a minus stands only before a coordinate that is not 0\n|\
 1: %L: a field is a whole number, of digits alone\n|\
 1: %L: a number has at most 7 digits\n|\

@@ -11,7 +11,7 @@ fn put_mark(text: &[u8], mark: u8, v: usize) {
         io::print_decimal(STDERR_FILENO, v as u64);
         return;
     }
-    let l = nth_line(text, find(b"PTEQ", 0, mark), v);
+    let l = nth_line(text, find(b"PTEKQ", 0, mark), v);
     io::write_all(STDERR_FILENO, b"line ");
     io::print_decimal(STDERR_FILENO, l.number as u64);
     io::write_all(STDERR_FILENO, b" (");

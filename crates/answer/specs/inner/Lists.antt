@@ -1,7 +1,7 @@
 -- What is printed for a job's lists, and the lists that arrays hold. Assumes nothing: these are definitions.
 use mathlib.Core.List.{List}
 use Prim.Native.Nat.{ℕ}
-use Rattle.laws.specs.Lists.{Lists}
+use Rattle.laws.specs.Lists.{Lists, job-lists}
 use Rattle.text.specs.Print.{Printed-lists, Prints}
 use Rattle.answer.specs.declared.printout.JobArrays.{JobArrays}
 use Rattle.laws.specs.Check.{job-refusal}
@@ -13,4 +13,4 @@ pub record Lists-printed (l : Lists) (old : List ℕ) (count : ℕ) (new : List 
   pub prints : Prints bytes old count new
 
 abbrev pub arrays : JobArrays → Lists
-arrays a = record { points = a .points; triangles = a .triangles; kept = a .kept; table = a .table }
+arrays a = job-lists (a .points) (a .triangles) (a .kept) (a .inner) (a .table)

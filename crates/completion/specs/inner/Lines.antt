@@ -6,7 +6,7 @@ use lib.ListN.{length}
 use lib.IntN.{ℤ}
 use Rattle.laws.specs.Laws.{choose}
 use Rattle.laws.specs.Fours.{all-fours}
-use Rattle.laws.specs.Lists.{Lists}
+use Rattle.laws.specs.Lists.{Lists, job-lists}
 use Rattle.laws.specs.inner.Unmeasured.{Tabled}
 use Rattle.text.specs.inner.Written.{Room}
 use Rattle.q_lines.specs.Completion.{missing-lines, missing-of}
@@ -25,4 +25,4 @@ pub record Text-ready (text : List ℕ) (points table : List ℤ) (out : List �
   pub room : Room out 0 (text ++ missing-of points table)
 
 abbrev pub arrays : JobArrays → Lists
-arrays a = record { points = a .points; triangles = a .triangles; kept = a .kept; table = a .table }
+arrays a = job-lists (a .points) (a .triangles) (a .kept) (a .inner) (a .table)

@@ -14,6 +14,6 @@ use Rattle.reading.specs.declared.table.Entries.{Entries}
 -- the Q lines from `from` on are read: the table of n points, or a bad Q among them
 pub record Table-read (n : ℕ) (text : List ℕ) (from : ℕ) (new : List ℤ) (r : Entries) : Type 0 where
   pub stop : Line-start text (r .at)
-  pub rest : text-lines (drop (r .at) text) ≡ after 3 (text-lines (drop from text))
-  pub right : r .good ≡ not (Q-bad n (run 3 (text-lines (drop from text))))
-  pub entries : r .good ≡ true → take (choose n 4) new ≡ map (Q-entry (run 3 (text-lines (drop from text)))) (all-fours n)
+  pub rest : text-lines (drop (r .at) text) ≡ after 4 (text-lines (drop from text))
+  pub right : r .good ≡ not (Q-bad n (run 4 (text-lines (drop from text))))
+  pub entries : r .good ≡ true → take (choose n 4) new ≡ map (Q-entry (run 4 (text-lines (drop from text)))) (all-fours n)

@@ -23,6 +23,9 @@ triangles-long m = eqb (m % 3) 0 && (leb 4 (m / 3) && leb (m / 3) 560)
 abbrev pub kept-long : ℕ → Bool
 kept-long m = eqb (m % 2) 0 && leb (m / 2) 120
 
+abbrev pub inner-long : ℕ → Bool
+inner-long m = eqb (m % 3) 0 && leb (m / 3) 560
+
 pub cut-points : (m : ℕ) → points-long (min 51 m) ≡ points-long m
 cut-points m = go (ltb m 51) refl
   where
@@ -52,6 +55,16 @@ cut-kept m = go (ltb m 242) refl
     go : (t : Bool) → ltb m 242 ≡ t → kept-long (min 242 m) ≡ kept-long m
     go true e = let h = ltb-true m 242 e in let q : min 242 m ≡ m = omega arith in ap kept-long q
     go false e = let h = ltb-false m 242 e in too-many (min 242 m) (omega arith) ∙ sym (too-many m h)
+
+pub cut-inner : (m : ℕ) → inner-long (min 1683 m) ≡ inner-long m
+cut-inner m = go (ltb m 1683) refl
+  where
+    too-many : (k : ℕ) → 1683 ≤ k → inner-long k ≡ false
+    too-many k h = and-false (eqb (k % 3) 0) (lt-leb (k / 3) 560 (omega arith))
+
+    go : (t : Bool) → ltb m 1683 ≡ t → inner-long (min 1683 m) ≡ inner-long m
+    go true e = let h = ltb-true m 1683 e in let q : min 1683 m ≡ m = omega arith in ap inner-long q
+    go false e = let h = ltb-false m 1683 e in too-many (min 1683 m) (omega arith) ∙ sym (too-many m h)
 
 abbrev pub cut : (limit : ℕ) → List ℕ → List ℕ
 cut k bs = map as-byte (take k bs)

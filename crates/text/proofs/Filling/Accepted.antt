@@ -1,4 +1,4 @@
--- What whoever prints a filling needs: an accepted job and a lawful filling of it give what printing asks, kept edges do not show in the printout,
+-- What whoever prints a filling needs: an accepted job and a lawful filling of it give what printing asks, kept edges and inner triangles do not show in the printout,
 -- and a filling's bytes at the start of the answer are the filling. Assumes nothing.
 use mathlib.Core.Path.{_≡_, refl, _∙_}
 use mathlib.Core.Bool.{true}
@@ -22,7 +22,7 @@ module _ (l : Lists) where
   abbrev pub shown-of : Lists
   shown-of = shown (l .points) (l .triangles) (l .table)
 
-  -- ---- kept edges
+  -- ---- kept edges and inner triangles
   worst-from-shown : (w : ℕ) (fs : List Four) → worst-from w (job l) fs ≡ worst-from w (job shown-of) fs
   unfolding worst-from entry job
   worst-from-shown w [] = refl

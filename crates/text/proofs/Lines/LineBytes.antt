@@ -18,15 +18,15 @@ use Rattle.text.proofs.Lines.LineForms.{width-some, by-letter, no-lette
 abbrev pub line-of : (bs : List ℕ) → Line
 line-of bs = line-in (fields-of bs)
 
-lettered : (l : Line) → letter-kind (l .letter) ≡ 4 → line-form l ≡ false
+lettered : (l : Line) → letter-kind (l .letter) ≡ 5 → line-form l ≡ false
 lettered l n = no-letter (l .letter) n (l .fields)
 
 -- a first field that is no single byte is no letter
-empty-letter : (ws : List (List ℕ)) → letter-kind (line-in ([] ∷ ws) .letter) ≡ 4
+empty-letter : (ws : List (List ℕ)) → letter-kind (line-in ([] ∷ ws) .letter) ≡ 5
 unfolding line-in letter-in letter-kind
 empty-letter ws = refl
 
-long-letter : (x y : ℕ) (ws : List (List ℕ)) → letter-kind (line-in (in-first x (in-first y ws)) .letter) ≡ 4
+long-letter : (x y : ℕ) (ws : List (List ℕ)) → letter-kind (line-in (in-first x (in-first y ws)) .letter) ≡ 5
 unfolding line-in letter-in letter-kind in-first
 long-letter x y [] = refl
 long-letter x y (w ∷ ws) = refl
@@ -53,14 +53,14 @@ lone-letter x p = ap line-in (fields-last (x ∷ []) (lacks-one comma x (eqb-fal
 
 -- ---- lines that cannot be of the form
 bare : (x : ℕ) → line-form (record { letter = x; fields = [] }) ≡ false
-bare x = go (eqb (letter-kind x) 4) refl
+bare x = go (eqb (letter-kind x) 5) refl
   where
-    go : (t : Bool) → eqb (letter-kind x) 4 ≡ t → line-form (record { letter = x; fields = [] }) ≡ false
-    go true e = no-letter x (eqb-true (letter-kind x) 4 e) []
+    go : (t : Bool) → eqb (letter-kind x) 5 ≡ t → line-form (record { letter = x; fields = [] }) ≡ false
+    go true e = no-letter x (eqb-true (letter-kind x) 5 e) []
     go false e =
         let h = width-some (letter-kind x) in
-        by-letter [] x (eqb-false (letter-kind x) 4 e) .form
-        ∙ ap (λ (t : Bool). t && (all-fields (field-form (eqb (letter-kind x) 0)) [] && (not (eqb (letter-kind x) 3) || rising (four-in (record { letter = x; fields = [] }))))) (ne-eqb 0 (width (letter-kind x)) (λ q. omega arith))
+        by-letter [] x (eqb-false (letter-kind x) 5 e) .form
+        ∙ ap (λ (t : Bool). t && (all-fields (field-form (eqb (letter-kind x) 0)) [] && (not (eqb (letter-kind x) 4) || rising (four-in (record { letter = x; fields = [] }))))) (ne-eqb 0 (width (letter-kind x)) (λ q. omega arith))
 
 pub short-line : (bs : List ℕ) → length bs < 2 → line-form (line-of bs) ≡ false
 unfolding fields-of
@@ -72,7 +72,7 @@ short-line (x ∷ []) h = go (eqb x comma) refl
     go false e = ap line-form (lone-letter x e) ∙ bare x
 short-line (x ∷ y ∷ r) h = absurd (omega arith)
 
-pub bad-start : (bs : List ℕ) → 2 ≤ length bs → (eqb (letter-kind (getD bs 0 0)) 4 || not (eqb (getD bs 1 0) comma)) ≡ true → line-form (line-of bs) ≡ false
+pub bad-start : (bs : List ℕ) → 2 ≤ length bs → (eqb (letter-kind (getD bs 0 0)) 5 || not (eqb (getD bs 1 0) comma)) ≡ true → line-form (line-of bs) ≡ false
 bad-start [] h p = absurd (omega arith)
 bad-start (x ∷ []) h p = absurd (omega arith)
 bad-start (x ∷ y ∷ r) h p = go (eqb x comma) refl (eqb y comma) refl
@@ -82,22 +82,22 @@ bad-start (x ∷ y ∷ r) h p = go (eqb x comma) refl (eqb y comma) refl
     go false d false e = two-letters x y r d e
     go false d true e =
         ⊎-elim
-        (λ k. ap (λ (z : ℕ). line-form (line-of (x ∷ z ∷ r))) (eqb-true y comma e) ∙ ap line-form (one-letter x r d) ∙ no-letter x (eqb-true (letter-kind x) 4 k) (fields-of r))
+        (λ k. ap (λ (z : ℕ). line-form (line-of (x ∷ z ∷ r))) (eqb-true y comma e) ∙ ap line-form (one-letter x r d) ∙ no-letter x (eqb-true (letter-kind x) 5 k) (fields-of r))
         (λ k. contradiction e (not-true (eqb y comma) k))
-        (or-true (eqb (letter-kind x) 4) (not (eqb y comma)) p)
+        (or-true (eqb (letter-kind x) 5) (not (eqb y comma)) p)
 
 -- ---- a letter of some kind, and a comma
 pub record Begun (bs : List ℕ) : Type 0 where
-  pub letter : letter-kind (getD bs 0 0) ≡ 4 → ⊥
+  pub letter : letter-kind (getD bs 0 0) ≡ 5 → ⊥
   pub is : line-of bs ≡ record { letter = getD bs 0 0; fields = fields-of (drop 2 bs) }
 
-pub good-start : (bs : List ℕ) → 2 ≤ length bs → (eqb (letter-kind (getD bs 0 0)) 4 || not (eqb (getD bs 1 0) comma)) ≡ false → Begun bs
+pub good-start : (bs : List ℕ) → 2 ≤ length bs → (eqb (letter-kind (getD bs 0 0)) 5 || not (eqb (getD bs 1 0) comma)) ≡ false → Begun bs
 unfolding letter-kind
 good-start [] h p = absurd (omega arith)
 good-start (x ∷ []) h p = absurd (omega arith)
 good-start (x ∷ y ∷ r) h p =
-    let q = or-false (eqb (letter-kind x) 4) (not (eqb y comma)) p in
-    let n = eqb-false (letter-kind x) 4 (q .0) in
+    let q = or-false (eqb (letter-kind x) 5) (not (eqb y comma)) p in
+    let n = eqb-false (letter-kind x) 5 (q .0) in
     record {
       letter = n;
       is =

@@ -1,4 +1,4 @@
--- A text is of the form where nothing is left behind its runs of P, T, E and Q lines, and its lists are those of the runs. Assumes nothing.
+-- A text is of the form where nothing is left behind its runs of P, T, E, K and Q lines, and its lists are those of the runs. Assumes nothing.
 use mathlib.Core.Path.{_≡_, refl, sym, ap, _∙_}
 use mathlib.Core.Bool.{Bool, true, false, _&&_, cond}
 use mathlib.Core.List.{List, [], _∷_}
@@ -7,7 +7,7 @@ use native.Mathlib.Omega.{arith}
 use borrow.Author.Tests.{eqb-true, eqb-false, le-leb, lt-leb, leb-true, leb-false}
 use lib.Dec.{leb, eqb}
 use Rattle.laws.proofs.Basics.Tests.{contradiction, and-true}
-use Rattle.text.specs.Text.{letter-P, letter-T, letter-E, Line, line-form, kind, lines-form}
+use Rattle.text.specs.Text.{letter-P, letter-T, letter-E, letter-K, Line, line-form, kind, lines-form}
 use Rattle.text.specs.inner.Runs.{is-kind, after}
 
 -- ---- the order of kinds
@@ -59,19 +59,20 @@ unfoldable pub empty : List Line → Bool
 empty [] = true
 empty (l ∷ ls) = false
 
-most-kind : (p t e : Bool) → cond p 0 (cond t 1 (cond e 2 3)) < 4
-most-kind true t e = omega arith
-most-kind false true e = omega arith
-most-kind false false true = omega arith
-most-kind false false false = omega arith
+most-kind : (p t e k : Bool) → cond p 0 (cond t 1 (cond e 2 (cond k 3 4))) < 5
+most-kind true t e k = omega arith
+most-kind false true e k = omega arith
+most-kind false false true k = omega arith
+most-kind false false false true = omega arith
+most-kind false false false false = omega arith
 
 -- there is no kind behind Q
-form-last : (ls : List Line) → lines-form 4 ls ≡ empty ls
+form-last : (ls : List Line) → lines-form 5 ls ≡ empty ls
 unfolding lines-form kind empty
 form-last [] = refl
 form-last (l ∷ ls) =
     ap (λ (t : Bool). (line-form l && t) && lines-form (kind l) ls)
-    (lt-leb 4 (kind l) (most-kind (eqb (l .letter) letter-P) (eqb (l .letter) letter-T) (eqb (l .letter) letter-E)))
+    (lt-leb 5 (kind l) (most-kind (eqb (l .letter) letter-P) (eqb (l .letter) letter-T) (eqb (l .letter) letter-E) (eqb (l .letter) letter-K)))
     ∙ none (line-form l) (lines-form (kind l) ls)
   where
     none : (a b : Bool) → ((a && false) && b) ≡ false
@@ -87,6 +88,14 @@ behind-T ls = after 1 (behind-P ls)
 abbrev pub behind-E : List Line → List Line
 behind-E ls = after 2 (behind-T ls)
 
-pub form-by-runs : (ls : List Line) → lines-form 0 ls ≡ empty (after 3 (behind-E ls))
+abbrev pub behind-K : List Line → List Line
+behind-K ls = after 3 (behind-E ls)
+
+pub form-by-runs : (ls : List Line) → lines-form 0 ls ≡ empty (after 4 (behind-K ls))
 form-by-runs ls =
-    form-after 0 ls ∙ form-after 1 (behind-P ls) ∙ form-after 2 (behind-T ls) ∙ form-after 3 (behind-E ls) ∙ form-last (after 3 (behind-E ls))
+    form-after 0 ls
+    ∙ form-after 1 (behind-P ls)
+    ∙ form-after 2 (behind-T ls)
+    ∙ form-after 3 (behind-E ls)
+    ∙ form-after 4 (behind-K ls)
+    ∙ form-last (after 4 (behind-K ls))

@@ -25,7 +25,7 @@ use Rattle.text.specs.inner.Runs.{is-kind}
 use Rattle.text.proofs.Tables.QLines.{entry-unmeasured, entry-other, entry-new}
 use Rattle.text.proofs.Tables.RisingLines.{line-rises}
 
-module _ (n : ℕ) (h : n ≤ 16) (read : List Line) (line : Line) (table : List ℤ) (room : length table ≡ 1820) (entries : (f : Four) → Well-formed n f → getD table (place n f) (negsuc 0) ≡ Q-entry read f) (rises : is-kind 3 line ≡ true) where
+module _ (n : ℕ) (h : n ≤ 16) (read : List Line) (line : Line) (table : List ℤ) (room : length table ≡ 1820) (entries : (f : Four) → Well-formed n f → getD table (place n f) (negsuc 0) ≡ Q-entry read f) (rises : is-kind 4 line ≡ true) where
   abbrev this : Four
   this = four-in line
 

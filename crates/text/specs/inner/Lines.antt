@@ -7,7 +7,7 @@ use lib.Dec.{eqb}
 use lib.ListN.{length, getD, take, drop}
 use lib.IntN.{ℤ, pos}
 use lib.Signed.{ltZ}
-use Rattle.text.specs.Text.{minus-sign, letter-P, letter-T, letter-E, letter-Q, number-form, coordinate-form, kind}
+use Rattle.text.specs.Text.{minus-sign, letter-P, letter-T, letter-E, letter-K, letter-Q, number-form, coordinate-form, kind}
 
 unfoldable pub lacks : (x : ℕ) → List ℕ → Bool
 lacks x [] = true
@@ -29,9 +29,9 @@ unfoldable pub field-form : (signed : Bool) → List ℕ → Bool
 field-form true = coordinate-form
 field-form false = number-form
 
--- kinds are numbered in their order: P, T, E, Q; 4 where a letter has none
+-- kinds are numbered in their order: P, T, E, K, Q; 5 where a letter has none
 unfoldable pub letter-kind : (letter : ℕ) → ℕ
-letter-kind x = cond (eqb x letter-P) 0 (cond (eqb x letter-T) 1 (cond (eqb x letter-E) 2 (cond (eqb x letter-Q) 3 4)))
+letter-kind x = cond (eqb x letter-P) 0 (cond (eqb x letter-T) 1 (cond (eqb x letter-E) 2 (cond (eqb x letter-K) 3 (cond (eqb x letter-Q) 4 5))))
 
 -- the first four numbers increase
 unfoldable pub rising-values : List ℤ → Bool
@@ -41,8 +41,8 @@ rising-values vs =
 
 -- how many numbers a line of each kind has
 unfoldable pub width : (kind : ℕ) → ℕ
-width k = cond (eqb k 2) 2 (cond (eqb k 3) 5 3)
+width k = cond (eqb k 2) 2 (cond (eqb k 4) 5 3)
 
 -- numbers make up a line of the kind: as many as it has, and those of a four increase
 unfoldable pub of-kind : (kind count : ℕ) → List ℤ → Bool
-of-kind k n vs = eqb n (width k) && (not (eqb k 3) || rising-values vs)
+of-kind k n vs = eqb n (width k) && (not (eqb k 4) || rising-values vs)

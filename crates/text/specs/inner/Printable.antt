@@ -17,9 +17,9 @@ use Rattle.laws.specs.inner.FaceFlags.{flagged}
 use Rattle.text.specs.Print.{H-lines, filling-out}
 use Rattle.text.specs.inner.Written.{Room}
 
--- what of a job shows in a printout: kept edges do not (`filling-out-shown`)
+-- what of a job shows in a printout: kept edges and inner triangles do not (`filling-out-shown`)
 abbrev pub shown : (points : List ℤ) → (triangles : List ℕ) → (table : List ℤ) → Lists
-shown ps ts qs = record { points = ps; triangles = ts; kept = []; table = qs }
+shown ps ts qs = record { points = ps; triangles = ts; kept = []; inner = []; table = qs }
 
 -- the H lines of the fours that a list of bytes has
 abbrev pub listed-out : Lists → (list : List ℕ) → List ℕ

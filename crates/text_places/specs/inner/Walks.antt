@@ -7,7 +7,7 @@ use lib.Dec.{leb}
 use lib.ListN.{length}
 use Rattle.geometry.specs.declared.tetrahedron.Four.{Four}
 use Rattle.laws.specs.Fours.{same-four}
-use Rattle.laws.specs.Lists.{Lists}
+use Rattle.laws.specs.Lists.{Lists, job-lists}
 use Rattle.text.specs.Text.{LF, fields-of, line-in, text-lines, lines-form, four-in}
 use Rattle.text.specs.Text as text
 use Rattle.text.specs.inner.Lines.{Found}
@@ -20,21 +20,21 @@ use Rattle.text_places.specs.declared.lists.JobArrays.{JobArrays}
 use Rattle.text_places.specs.TextPlaces.{line-there, first-bad, Stands, For-both}
 
 abbrev pub arrays : JobArrays → Lists
-arrays a = record { points = a .points; triangles = a .triangles; kept = a .kept; table = a .table }
+arrays a = job-lists (a .points) (a .triangles) (a .kept) (a .inner) (a .table)
 
 pub record Bad-found (bs : List ℕ) (r : Spot) : Type 0 where
   pub some : r .ok ≡ true → (first-bad 0 (r .number) (text-lines bs) ≡ true) × Stands bs (r .start) (r .number)
   pub none : r .ok ≡ false → lines-form 0 (text-lines bs) ≡ true
 
 pub record Q-read (w : List ℕ) (r : QLine) : Type 0 where
-  pub form : r .ok ≡ is-kind 3 (line-in (fields-of w))
+  pub form : r .ok ≡ is-kind 4 (line-in (fields-of w))
   pub four : r .ok ≡ true → r .four ≡ four-in (line-in (fields-of w))
 
 unfoldable pub four-wanted : Want → Four → Bool
 four-wanted w g = cond (w .absent) (leb (w .n) (g .d)) (same-four (w .f) g)
 
 unfoldable pub wanted : Want → text.Line → Bool
-wanted w l = is-kind 3 l && four-wanted w (four-in l)
+wanted w l = is-kind 4 l && four-wanted w (four-in l)
 
 pub record Wanted-found (w : Want) (bs : List ℕ) (from : ℕ) (r : Spot) : Type 0 where
   pub later : from ≤ r .number

@@ -18,8 +18,8 @@ returns : tie.Need-returns
 unfolding of-kind
 returns c =
     let a = c .before .before .args in
-    ap (λ (n : ℕ). eqb (a .count) n && (not (eqb (a .kind) 3) || c .is-rising .result)) (c .before .width .ensures)
-    ∙ ap (λ (t : Bool). eqb (a .count) (width (a .kind)) && (not (eqb (a .kind) 3) || t)) (c .is-rising .ensures)
+    ap (λ (n : ℕ). eqb (a .count) n && (not (eqb (a .kind) 4) || c .is-rising .result)) (c .before .width .ensures)
+    ∙ ap (λ (t : Bool). eqb (a .count) (width (a .kind)) && (not (eqb (a .kind) 4) || t)) (c .is-rising .ensures)
 
 pub is-of-kind-spec : {M : Type 1} → statement M
 is-of-kind-spec = tie.close (tie.spec width-requires is-rising-requires returns)

@@ -22,8 +22,12 @@ unfolding letter-kind
 returns-4 c = ap letter-kind (sym (c .match .keys4))
 
 returns-5 : tie.Need-returns-5
-returns-5 c =
-    let n = c .match .rest in sym (letter-none (c .before .args .letter) (n .0 .0 .0 .1) (n .0 .0 .1) (n .0 .1) (n .1))
+unfolding letter-kind
+returns-5 c = ap letter-kind (sym (c .match .keys5))
+
+returns-6 : tie.Need-returns-6
+returns-6 c =
+    let n = c .match .rest in sym (letter-none (c .before .args .letter) (n .0 .0 .0 .0 .1) (n .0 .0 .0 .1) (n .0 .0 .1) (n .0 .1) (n .1))
 
 pub kind-of-spec : {M : Type 1} → statement M
-kind-of-spec = tie.close (tie.spec returns returns-2 returns-3 returns-4 returns-5)
+kind-of-spec = tie.close (tie.spec returns returns-2 returns-3 returns-4 returns-5 returns-6)

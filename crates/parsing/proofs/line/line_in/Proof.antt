@@ -34,13 +34,13 @@ returns-2 : tie.Need-returns-2
 returns-2 c =
     let l = c .before .before .before .before .before .before .before .args .line .now in
     no-line-read (line-of l) (c .no-line2 .result) (c .no-line2 .ensures) (bad-start l (omega arith)
-    (subst (λ (k : ℕ). (eqb k 4 || not (eqb (getD l 1 0) 44)) ≡ true) (c .before .before .before .kind-of .ensures) (c .before .if2 .taken)))
+    (subst (λ (k : ℕ). (eqb k 5 || not (eqb (getD l 1 0) 44)) ≡ true) (c .before .before .before .kind-of .ensures) (c .before .if2 .taken)))
 
 -- the letter has a kind and a comma stands behind it
 begun : (c : tie.Else2) → Begun (c .before .before .before .before .before .before .args .line .now)
 begun c =
     let l = c .before .before .before .before .before .before .args .line .now in
-    good-start l (omega arith) (subst (λ (k : ℕ). (eqb k 4 || not (eqb (getD l 1 0) 44)) ≡ false) (c .before .before .kind-of .ensures) (c .if2 .left))
+    good-start l (omega arith) (subst (λ (k : ℕ). (eqb k 5 || not (eqb (getD l 1 0) 44)) ≡ false) (c .before .before .kind-of .ensures) (c .if2 .left))
 
 sub-fields-in : tie.Need-sub-fields-in
 sub-fields-in c = search needs

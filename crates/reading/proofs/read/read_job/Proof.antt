@@ -23,7 +23,7 @@ unread-requires c κs = search needs
 
 returns : tie.Need-returns
 returns c =
-    not-read (c .before .before .before .before .args .text .now) (too-long (c .before .before .before .before .args .text .now) (c .before .before .is-ended .result) (c .before .before .is-ended .ensures) (c .before .if1 .taken)) (c .unread .result) (c .unread .ensures) (record { points = _; triangles = _; kept = _; table = _ })
+    not-read (c .before .before .before .before .args .text .now) (too-long (c .before .before .before .before .args .text .now) (c .before .before .is-ended .result) (c .before .before .is-ended .ensures) (c .before .if1 .taken)) (c .unread .result) (c .unread .ensures) (record { points = _; triangles = _; kept = _; inner = _; table = _ })
 
 -- the text is short enough and its last line ends
 short : (c : tie.Else1) → length (c .before .before .before .args .text .now) ≤ 65536
@@ -46,6 +46,10 @@ read-numbers-requires-2 : tie.Need-read-numbers-requires-2
 unfolding width
 read-numbers-requires-2 c κs = (c .before .read-numbers .ensures .stop, refl, λ e. omega arith)
 
+read-numbers-requires-3 : tie.Need-read-numbers-requires-3
+unfolding width
+read-numbers-requires-3 c κs = (c .before .read-numbers2 .ensures .stop, refl, λ e. omega arith)
+
 tabled-requires : tie.Need-tabled-requires
 tabled-requires c κs = search needs
 
@@ -60,21 +64,21 @@ unread-requires-2 c κs = search needs
 
 returns-2 : tie.Need-returns-2
 returns-2 c =
-    let s = c .before .before .before .before .before .before .before .before .before .before .before .before .before .before in
-    not-read (c .before .before .before .before .before .before .before .before .before .before .before .before .before .before .before .before .before .args .text .now)
-    (lines-remain (c .before .before .before .before .before .before .before .before .before .before .before .before .before .before .before .before .before .args .text .now) (c .before .before .before .before .before .before .before .before .before .before .before .before .read-points .result) (c .before .before .before .before .before .before .before .before .before .before .read-numbers .result) (c .before .before .before .before .before .before .before .before .read-numbers2 .result) (c .before .before .before .read-table .result) (c .before .before .before .before .before .before .before .tabled .result) _ _ _ _ _ _ _
-    (c .before .before .before .before .before .before .before .before .before .before .before .before .read-points .ensures) (c .before .before .before .before .before .before .before .before .before .before .read-numbers .ensures) (c .before .before .before .before .before .before .before .before .read-numbers2 .ensures) (c .before .before .before .read-table .ensures) (short s) (ended s) (c .before .if2 .taken))
-    (c .unread2 .result) (c .unread2 .ensures) (record { points = _; triangles = _; kept = _; table = _ })
+    let s = c .before .before .before .before .before .before .before .before .before .before .before .before .before .before .before .before in
+    not-read (c .before .before .before .before .before .before .before .before .before .before .before .before .before .before .before .before .before .before .before .args .text .now)
+    (lines-remain (c .before .before .before .before .before .before .before .before .before .before .before .before .before .before .before .before .before .before .before .args .text .now) (c .before .before .before .before .before .before .before .before .before .before .before .before .before .before .read-points .result) (c .before .before .before .before .before .before .before .before .before .before .before .before .read-numbers .result) (c .before .before .before .before .before .before .before .before .before .before .read-numbers2 .result) (c .before .before .before .before .before .before .before .before .read-numbers3 .result) (c .before .before .before .read-table .result) (c .before .before .before .before .before .before .before .tabled .result) _ _ _ _ _ _ _ _ _
+    (c .before .before .before .before .before .before .before .before .before .before .before .before .before .before .read-points .ensures) (c .before .before .before .before .before .before .before .before .before .before .before .before .read-numbers .ensures) (c .before .before .before .before .before .before .before .before .before .before .read-numbers2 .ensures) (c .before .before .before .before .before .before .before .before .read-numbers3 .ensures) (c .before .before .before .read-table .ensures) (short s) (ended s) (c .before .if2 .taken))
+    (c .unread2 .result) (c .unread2 .ensures) (record { points = _; triangles = _; kept = _; inner = _; table = _ })
 
 entries-requires : tie.Need-entries-requires
 entries-requires c κs = search needs
 
 returns-3 : tie.Need-returns-3
 returns-3 c =
-    let s = c .before .before .before .before .before .before .before .before .before .before .before .before .before .before in
-    job-read (c .before .before .before .before .before .before .before .before .before .before .before .before .before .before .before .before .before .args .text .now) (c .before .before .before .before .before .before .before .before .before .before .before .before .read-points .result) (c .before .before .before .before .before .before .before .before .before .before .read-numbers .result) (c .before .before .before .before .before .before .before .before .read-numbers2 .result) (c .before .before .before .read-table .result) (c .before .before .before .before .before .before .before .tabled .result) _ _ _ _ _ _ _
-    (c .before .before .before .before .before .before .before .before .before .before .before .before .read-points .ensures) (c .before .before .before .before .before .before .before .before .before .before .read-numbers .ensures) (c .before .before .before .before .before .before .before .before .read-numbers2 .ensures) (c .before .before .before .read-table .ensures) (short s) (ended s)
-    (omega arith) (c .before .before .before .before .before .before .before .before .before .before .before .before .before .read-points-arg .given .0 .1) (c .before .before .before .before .before .before .before .before .before .before .before .read-numbers-arg .given .0 .1) (c .before .before .before .before .before .before .before .before .before .read-numbers-arg2 .given .0 .1)
+    let s = c .before .before .before .before .before .before .before .before .before .before .before .before .before .before .before .before in
+    job-read (c .before .before .before .before .before .before .before .before .before .before .before .before .before .before .before .before .before .before .before .args .text .now) (c .before .before .before .before .before .before .before .before .before .before .before .before .before .before .read-points .result) (c .before .before .before .before .before .before .before .before .before .before .before .before .read-numbers .result) (c .before .before .before .before .before .before .before .before .before .before .read-numbers2 .result) (c .before .before .before .before .before .before .before .before .read-numbers3 .result) (c .before .before .before .read-table .result) (c .before .before .before .before .before .before .before .tabled .result) _ _ _ _ _ _ _ _ _
+    (c .before .before .before .before .before .before .before .before .before .before .before .before .before .before .read-points .ensures) (c .before .before .before .before .before .before .before .before .before .before .before .before .read-numbers .ensures) (c .before .before .before .before .before .before .before .before .before .before .read-numbers2 .ensures) (c .before .before .before .before .before .before .before .before .read-numbers3 .ensures) (c .before .before .before .read-table .ensures) (short s) (ended s)
+    (omega arith) (c .before .before .before .before .before .before .before .before .before .before .before .before .before .before .before .read-points-arg .given .0 .1) (c .before .before .before .before .before .before .before .before .before .before .before .before .before .read-numbers-arg .given .0 .1) (c .before .before .before .before .before .before .before .before .before .before .before .read-numbers-arg2 .given .0 .1) (c .before .before .before .before .before .before .before .before .before .read-numbers-arg3 .given .0 .1)
     (c .before .before .before .before .before .before .before .tabled .ensures) (c .entries .result) (c .entries .ensures)
 
 pub read-job-spec : {M : Type 1} → statement M
@@ -87,6 +91,7 @@ read-job-spec =
     read-points-requires
     read-numbers-requires
     read-numbers-requires-2
+    read-numbers-requires-3
     tabled-requires
     clear-requires
     read-table-requires

@@ -38,7 +38,7 @@ returns c =
     tabling-done (c .before .before .before .before .before .pre .1) (c .before .before .before .loop .inv .0) (n .ensures .none (not-true (n .result .ok) (c .if1 .taken)))
 
 -- the line that was read
-line-read : (c : tie.Else1 Inv-loop μ-loop) → Line-at 3 (c .before .before .before .before .before .args .text .now) (c .before .before .before .loop .at) (c .before .before .next-line .result)
+line-read : (c : tie.Else1 Inv-loop μ-loop) → Line-at 4 (c .before .before .before .before .before .args .text .now) (c .before .before .before .loop .at) (c .before .before .next-line .result)
 line-read c = let n = c .before .before .next-line in n .ensures .some (not-false (n .result .ok) (c .if1 .left))
 
 enter-requires : tie.Need-enter-requires Inv-loop μ-loop

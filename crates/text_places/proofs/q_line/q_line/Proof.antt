@@ -17,7 +17,7 @@ returns : tie.Need-returns
 returns c =
     let l = c .before .before .before .before .line-in in
     let w = c .before .before .before .before .before .before .args .line .now in
-    record { form = kind-tested 3 (line-of w) (l .result) (l .ensures); four = λ p. c .four-of .ensures ∙ four-parsed (line-of w) (l .result) (l .ensures) p }
+    record { form = kind-tested 4 (line-of w) (l .result) (l .ensures); four = λ p. c .four-of .ensures ∙ four-parsed (line-of w) (l .result) (l .ensures) p }
 
 pub q-line-spec : {M : Type 1} → statement M
 q-line-spec = tie.close (tie.spec line-in-requires four-of-requires returns)
