@@ -261,7 +261,7 @@ unfoldable pub coordinates : (points : List ℤ) → (numbers : List ℕ) → Li
 coordinates cs [] = []
 coordinates cs (p ∷ ps) = take 3 (drop (3 * p) cs) ++ coordinates cs ps
 
--- the cavity as a job: P ascending, the boundary faces of C, no kept edges, every four measured
+-- the cavity as a job: P ascending, the boundary faces of C, no kept edges, no inner triangles, every four measured
 unfoldable pub cavity-triangles : Bench → Cavity → List Tri
 cavity-triangles b c =
     let all = all-faces (points-in (b .points)) (tets-at (mesh-fours (b .tets)) (c .tets)) in boundary-faces-of all all
@@ -272,7 +272,7 @@ cavity-table cs = map (four-entry (points-in cs)) (all-fours (length (points-in 
 unfoldable pub cavity-job : Bench → Cavity → Job
 cavity-job b c =
     let cs = coordinates (b .points) (c .points) in
-    job (job-lists cs (renumbered (c .points) (cavity-triangles b c)) [] (cavity-table cs))
+    job (job-lists cs (renumbered (c .points) (cavity-triangles b c)) [] [] (cavity-table cs))
 
 -- the worst quality of C
 unfoldable pub least-of : (so-far : ℕ) → (qualities : List ℕ) → (tets : List ℕ) → ℕ

@@ -132,5 +132,5 @@ Stays-good = (o : Op) (b : Bench) (r : Done) → Does benches o b r → r .numbe
 unfoldable pub Cavity-accepted : Type 0
 Cavity-accepted =
     (b : Bench) (c : Cavity) → held b ≡ opened c →
-    job-refusal (job-lists (coordinates (b .points) (c .points)) (renumbered (c .points) (cavity-triangles b c)) [] (cavity-table (coordinates (b .points) (c .points))))
+    job-refusal (job-lists (coordinates (b .points) (c .points)) (renumbered (c .points) (cavity-triangles b c)) [] [] (cavity-table (coordinates (b .points) (c .points))))
     ≡ 0

@@ -19,7 +19,7 @@ use Rattle.cases.specs.Cases.{Tetrahedron, tetrahedron-of, fours-of, sol
 use Rattle.cases.proofs.Equality.{same-list, same-list-true, same-tetrahedron, same-tetrahedron-true, same-read, same-read-true}
 use Rattle.cases.proofs.Every.{every, every-at}
 use Rattle.cases.proofs.Choosing.{is-best, is-best-true, none-lawful, none-lawful-true}
-use Rattle.cases.proofs.Computing.{vectors, tetrahedra, doubles, measuring, checks, table, laws-1-to-3, laws-4-to-7, fillings, texts, printouts}
+use Rattle.cases.proofs.Computing.{vectors, tetrahedra, doubles, measuring, checks, table, laws-1-to-3, laws-4-to-8, fillings, texts, printouts}
 
 -- ---- the test of each kind of row
 abbrev found-test : Lists → List Tetrahedron → (least : ℕ) → Bool
@@ -145,7 +145,7 @@ test-true (measures cs d s q) h = measures-test-true cs d s q h
 
 -- THE COMPUTED TEST
 every-case-passes : every test cases ≡ true
-unfolding vectors tetrahedra doubles measuring checks table laws-1-to-3 laws-4-to-7 fillings texts printouts
+unfolding vectors tetrahedra doubles measuring checks table laws-1-to-3 laws-4-to-8 fillings texts printouts
 every-case-passes = refl
 
 pub cases-hold : Cases-hold

@@ -3,7 +3,7 @@ use Prim.Native.Nat.{ℕ}
 use Rattle.geometry.specs.Space.{z, of, plus, minus, times, above, equal, v3, less, cross, dot, is-zero, same-place, det, points-in, point, four, D, solid, turned, inside, corners, all-below, each-below, parts-them, any-parts, normal, normals, edges-of, crosses, all-crosses, directions, apart}
 use Rattle.geometry.specs.Range.{far, any-far}
 use Rattle.shape.specs.Measure.{measure-refusal, magnitude, D-of, square, S-of, double, shape-number, clamped, millionths, is-flat}
-use Rattle.laws.specs.Laws.{tri, choose, before-first, place, entry, quality, rising, four-before, law-1, law-2, none-inside, law-3, faces, all-faces, same-tri, reversed, has, once, all-in, matched, law-4, apart-all, law-5, corner-of, is-corner, corners-from, law-6, holds-edge, all-kept, law-7, broken, lawful, worst-from, worst, list-before, fours-in}
+use Rattle.laws.specs.Laws.{tri, choose, before-first, place, entry, quality, rising, four-before, law-1, law-2, none-inside, law-3, faces, all-faces, same-tri, reversed, has, once, all-in, matched, law-4, apart-all, law-5, corner-of, is-corner, corners-from, law-6, holds-edge, all-kept, law-7, all-faced, law-8, broken, lawful, worst-from, worst, list-before, fours-in}
 use Rattle.laws.specs.Fours.{from, rest, with-each, all-fours, same-four}
 use Rattle.laws.specs.Check.{place-taken, two-alike, tris-in, edges-in, tri-bad, any-tri-bad, tri-taken, tris-alike, directed, how-often, unmatched, edge-bad, entry-bad, any-entry-bad, unmeasured, over, solid-unmeasured, job, refusal, first-refusal, refusals, job-refusal}
 use Rattle.judge.specs.Judge.{judged}
@@ -40,9 +40,9 @@ unfoldable pub laws-1-to-3 : ℕ
 unfolding rising four-before law-1 law-2 none-inside law-3
 laws-1-to-3 = 0
 
-unfoldable pub laws-4-to-7 : ℕ
-unfolding tri faces all-faces same-tri reversed has once all-in matched law-4 apart-all law-5 corner-of is-corner corners-from law-6 holds-edge all-kept law-7
-laws-4-to-7 = 0
+unfoldable pub laws-4-to-8 : ℕ
+unfolding tri faces all-faces same-tri reversed has once all-in matched law-4 apart-all law-5 corner-of is-corner corners-from law-6 holds-edge all-kept law-7 all-faced law-8
+laws-4-to-8 = 0
 
 unfoldable pub fillings : ℕ
 unfolding broken lawful worst-from worst list-before judged count-in boundary-faces tetrahedron-of fours-of

@@ -64,27 +64,30 @@ same-number-true (negsuc m) (negsuc n) h = ap negsuc (eqb-true m n h)
 abbrev pub same-lists : Lists → Lists → Bool
 same-lists k l =
     (same-list same-number (k .points) (l .points) && same-list eqb (k .triangles) (l .triangles))
-    && (same-list eqb (k .kept) (l .kept) && same-list same-number (k .table) (l .table))
+    && (same-list eqb (k .kept) (l .kept) && (same-list eqb (k .inner) (l .inner) && same-list same-number (k .table) (l .table)))
 
 pub same-lists-true : (k l : Lists) → same-lists k l ≡ true → k ≡ l
 same-lists-true k l h =
     let points = same-list same-number (k .points) (l .points) in
     let triangles = same-list eqb (k .triangles) (l .triangles) in
     let kept = same-list eqb (k .kept) (l .kept) in
+    let inner = same-list eqb (k .inner) (l .inner) in
     let table = same-list same-number (k .table) (l .table) in
-    let b = and-true (points && triangles) (kept && table) h in
+    let b = and-true (points && triangles) (kept && (inner && table)) h in
     let p = and-true points triangles (b .0) in
-    let q = and-true kept table (b .1) in
+    let q = and-true kept (inner && table) (b .1) in
+    let r = and-true inner table (q .1) in
     alike
     (same-list-true same-number same-number-true (k .points) (l .points) (p .0))
     (same-list-true eqb eqb-true (k .triangles) (l .triangles) (p .1))
     (same-list-true eqb eqb-true (k .kept) (l .kept) (q .0))
-    (same-list-true same-number same-number-true (k .table) (l .table) (q .1))
+    (same-list-true eqb eqb-true (k .inner) (l .inner) (r .0))
+    (same-list-true same-number same-number-true (k .table) (l .table) (r .1))
   where
     alike :
-        {ps ps′ qs qs′ : List ℤ} {ts ts′ es es′ : List ℕ} → ps ≡ ps′ → ts ≡ ts′ → es ≡ es′ → qs ≡ qs′ →
-        _≡_ {A = Lists} (record { points = ps; triangles = ts; kept = es; table = qs }) (record { points = ps′; triangles = ts′; kept = es′; table = qs′ })
-    alike p q r s = cc
+        {ps ps′ qs qs′ : List ℤ} {ts ts′ es es′ ks ks′ : List ℕ} → ps ≡ ps′ → ts ≡ ts′ → es ≡ es′ → ks ≡ ks′ → qs ≡ qs′ →
+        _≡_ {A = Lists} (record { points = ps; triangles = ts; kept = es; inner = ks; table = qs }) (record { points = ps′; triangles = ts′; kept = es′; inner = ks′; table = qs′ })
+    alike p q r s t = cc
 
 -- a text says these lists
 abbrev pub same-read : Option Lists → Lists → Bool

@@ -46,7 +46,7 @@ pub data Outcome : Type 0 where
   found : (filling : List Tetrahedron) → (least : ℕ) → Outcome
   -- no lawful filling: 15
   nothing : Outcome
-  -- a number from 2 to 13
+  -- a number from 2 to 13, 22 or 23
   refused : (number : ℕ) → Outcome
 
 -- ---- what a row says
@@ -126,25 +126,28 @@ Holds (measures cs d s q) = Measures-as cs d s q
 abbrev pub points-A : List ℤ
 points-A = pos 0 ∷ pos 0 ∷ pos 0 ∷ pos 1 ∷ pos 0 ∷ pos 0 ∷ pos 0 ∷ pos 1 ∷ pos 0 ∷ pos 0 ∷ pos 0 ∷ pos 1 ∷ []
 
--- ---- case B, with the kept edges and the entries of 0123, 0124 and 0134 open
+-- ---- case B, with the kept edges, the inner triangles and the entries of 0123, 0124 and 0134 open
 abbrev pub points-B : List ℤ
 points-B = pos 0 ∷ pos 0 ∷ pos 0 ∷ pos 6 ∷ pos 0 ∷ pos 0 ∷ pos 0 ∷ pos 6 ∷ pos 0 ∷ pos 1 ∷ pos 1 ∷ pos 5 ∷ pos 1 ∷ pos 1 ∷ negsuc 4 ∷ []
 
 abbrev pub triangles-B : List ℕ
 triangles-B = 0 ∷ 1 ∷ 3 ∷ 1 ∷ 2 ∷ 3 ∷ 2 ∷ 0 ∷ 3 ∷ 1 ∷ 0 ∷ 4 ∷ 2 ∷ 1 ∷ 4 ∷ 0 ∷ 2 ∷ 4 ∷ []
 
-abbrev pub B-with : (kept : List ℕ) → (q0123 q0124 q0134 : ℤ) → Lists
-B-with es p q r =
-    record { points = points-B; triangles = triangles-B; kept = es; table = p ∷ q ∷ r ∷ pos 450000 ∷ pos 460000 ∷ [] }
+abbrev pub B-with : (kept inner : List ℕ) → (q0123 q0124 q0134 : ℤ) → Lists
+B-with es ks p q r =
+    record { points = points-B; triangles = triangles-B; kept = es; inner = ks; table = p ∷ q ∷ r ∷ pos 450000 ∷ pos 460000 ∷ [] }
 
 abbrev pub B : Lists
-B = B-with [] (pos 500000) (pos 400000) (pos 450000)
+B = B-with [] [] (pos 500000) (pos 400000) (pos 450000)
 
--- its text, with the Q lines of 0123, 0124 and 0134 open
-abbrev pub B-text : (Q-lines : String) → List ℕ
-B-text qs =
+abbrev pub B-inner : Lists
+B-inner = B-with [] (0 ∷ 1 ∷ 2 ∷ []) (pos 500000) (pos 400000) (pos 450000)
+
+-- its text, with the K lines and the Q lines of 0123, 0124 and 0134 open
+abbrev pub B-text : (K-and-Q-lines : String) → List ℕ
+B-text ls =
     characters "P,0,0,0\nP,6,0,0\nP,0,6,0\nP,1,1,5\nP,1,1,-5\nT,0,1,3\nT,1,2,3\nT,2,0,3\nT,1,0,4\nT,2,1,4\nT,0,2,4\n"
-    ++ (characters qs ++ characters "Q,0,2,3,4,450000\nQ,1,2,3,4,460000\n")
+    ++ (characters ls ++ characters "Q,0,2,3,4,450000\nQ,1,2,3,4,460000\n")
 
 abbrev pub tetrahedron : (a b c d volume quality outer : ℕ) → Tetrahedron
 tetrahedron a b c d v q o = record { corners = four a b c d; volume = v; quality = q; outer = o }
@@ -163,27 +166,32 @@ inner-point =
       points = pos 0 ∷ pos 0 ∷ pos 0 ∷ pos 4 ∷ pos 0 ∷ pos 0 ∷ pos 0 ∷ pos 4 ∷ pos 0 ∷ pos 0 ∷ pos 0 ∷ pos 4 ∷ pos 1 ∷ pos 1 ∷ pos 1 ∷ [];
       triangles = 0 ∷ 2 ∷ 1 ∷ 0 ∷ 1 ∷ 3 ∷ 0 ∷ 3 ∷ 2 ∷ 1 ∷ 2 ∷ 3 ∷ [];
       kept = [];
+      inner = [];
       table = pos 1 ∷ pos 1 ∷ pos 1 ∷ pos 1 ∷ pos 1 ∷ [];
     }
 
 abbrev pub around : List Tetrahedron
 around = tetrahedron 0 1 2 4 16 1 1 ∷ tetrahedron 0 1 3 4 16 1 1 ∷ tetrahedron 0 2 3 4 16 1 1 ∷ tetrahedron 1 2 3 4 16 1 1 ∷ []
 
--- ---- THE TABLE, in document 01's order
+-- ---- THE TABLE, in document 01's order; then case B with an inner triangle (document 02), of which 23 comes before 12
 abbrev pub cases : List Case
 cases =
     measures points-A 1 9 592592
     ∷ written (B-text "Q,0,1,2,3,500000\nQ,0,1,2,4,400000\nQ,0,1,3,4,450000\n") B (found (three 450000) 450000)
     (characters "F,3,450000\nH,0,1,3,4,450000,2\nH,0,2,3,4,450000,2\nH,1,2,3,4,460000,2\n")
-    ∷ given (B-with [] (pos 500000) (pos 400000) (pos 400000)) (found (two 400000) 400000)
-    ∷ tied (B-with [] (pos 500000) (pos 400000) (pos 400000)) (fours-of (two 400000)) (fours-of (three 400000)) 400000
-    ∷ given (B-with [] (pos 500000) (pos 500000) (pos 450000)) (found (two 500000) 500000)
-    ∷ given (B-with (3 ∷ 4 ∷ []) (pos 500000) (pos 500000) (pos 450000)) (found (three 450000) 450000)
-    ∷ written (B-text "Q,0,1,2,3,500000\nQ,0,1,2,4,0\nQ,0,1,3,4,0\n") (B-with [] (pos 500000) (pos 0) (pos 0)) nothing (characters "R,15\n")
-    ∷ written (B-text "Q,0,1,2,4,400000\nQ,0,1,3,4,450000\n") (B-with [] (negsuc 0) (pos 400000) (pos 450000)) (refused 13) (characters "R,13\n")
+    ∷ given (B-with [] [] (pos 500000) (pos 400000) (pos 400000)) (found (two 400000) 400000)
+    ∷ tied (B-with [] [] (pos 500000) (pos 400000) (pos 400000)) (fours-of (two 400000)) (fours-of (three 400000)) 400000
+    ∷ given (B-with [] [] (pos 500000) (pos 500000) (pos 450000)) (found (two 500000) 500000)
+    ∷ given (B-with (3 ∷ 4 ∷ []) [] (pos 500000) (pos 500000) (pos 450000)) (found (three 450000) 450000)
+    ∷ written (B-text "Q,0,1,2,3,500000\nQ,0,1,2,4,0\nQ,0,1,3,4,0\n") (B-with [] [] (pos 500000) (pos 0) (pos 0)) nothing (characters "R,15\n")
+    ∷ written (B-text "Q,0,1,2,4,400000\nQ,0,1,3,4,450000\n") (B-with [] [] (negsuc 0) (pos 400000) (pos 450000)) (refused 13) (characters "R,13\n")
     ∷ given inner-point (found around 1)
     ∷ breaks B (0 ∷ 1 ∷ 2 ∷ 3 ∷ []) 4
     ∷ breaks B [] 4
+    ∷ written (B-text "K,0,1,2\nQ,0,1,2,3,500000\nQ,0,1,2,4,400000\nQ,0,1,3,4,450000\n") B-inner (found (two 400000) 400000)
+    (characters "F,2,400000\nH,0,1,2,3,500000,3\nH,0,1,2,4,400000,3\n")
+    ∷ breaks B-inner (0 ∷ 1 ∷ 3 ∷ 4 ∷ 0 ∷ 2 ∷ 3 ∷ 4 ∷ 1 ∷ 2 ∷ 3 ∷ 4 ∷ []) 8
+    ∷ given (B-with [] (0 ∷ 1 ∷ 1 ∷ []) (pos 1000001) (pos 400000) (pos 450000)) (refused 23)
     ∷ []
 
 -- THE STATEMENT: what each row says holds

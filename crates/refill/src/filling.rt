@@ -30,7 +30,7 @@ pub(crate) struct Filling {
     pub point_count: usize,
 }
 
-// The answer to a job with no kept edges and every four measured.
+// The answer to a job with no kept edges, no inner triangles and every four measured.
 fn search_measured(points: &[i32], triangles: &[u8]) -> Answer
     requires { ⌜ (any-far (now points) ≡ false) × (length (points-in (now points)) ≤ 16) ⌝ }
     ensures { λ r. ⌜ Answered (now (points .entry)) (now (triangles .entry)) r ⌝ }
@@ -39,8 +39,16 @@ fn search_measured(points: &[i32], triangles: &[u8]) -> Answer
     let entry = table.entry;
     let e = table.count;
     let kept: [u8; 1] = [0];
+    let inner: [u8; 1] = [0];
     let mut corner: [u8; 7280] = [0; 7280];
-    let found = search(points, triangles, &kept[..0], &entry[..e], &mut corner);
+    let found = search(
+        points,
+        triangles,
+        &kept[..0],
+        &inner[..0],
+        &entry[..e],
+        &mut corner,
+    );
     Answer {
         number: found.number,
         count: found.count,

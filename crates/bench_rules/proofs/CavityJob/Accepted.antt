@@ -1,4 +1,4 @@
--- The job that replace hands to the search is one the checker accepts: numbers 2 to 13, one by one. Assumes nothing.
+-- The job that replace hands to the search is one the checker accepts: numbers 2 to 13, 22 and 23, one by one. Assumes nothing.
 use mathlib.Core.Path.{_≡_, refl, ap, _∙_}
 use mathlib.Core.Bool.{true}
 use mathlib.Core.List.{List, [], map}
@@ -30,8 +30,8 @@ threefold l k e = eq-eqb (l % 3) 0 (omega arith)
 
 pub opened-accepted :
     (b : Bench) (c : Cavity) → Mesh b → Good-cavity b c →
-    Accepted (job-lists (coordinates (b .points) (c .points)) (renumbered (c .points) (cavity-triangles b c)) [] (cavity-table (coordinates (b .points) (c .points))))
-unfolding job cavity-table edges-in edge-bad
+    Accepted (job-lists (coordinates (b .points) (c .points)) (renumbered (c .points) (cavity-triangles b c)) [] [] (cavity-table (coordinates (b .points) (c .points))))
+unfolding job cavity-table tris-in edges-in edge-bad any-tri-bad
 opened-accepted b c m g =
     record {
       shape = and-of (threefold (length cs) (length P) (coordinates-length (b .points) present)) (and-of (le-leb 4 n (omega (arith, count, r .points))) (le-leb n 16 few));
@@ -43,9 +43,11 @@ opened-accepted b c m g =
       edges-even = ap (λ (U : List Tri). unmatched (directed U) (directed U)) triangles ∙ r .even;
       kept-shape = refl;
       kept-good = refl;
+      inner-shape = refl;
+      inner-good = refl;
       table-shape = eq-eqb (length (cavity-table cs)) (choose n 4) (table-length cs few);
       entries = entries-good (points-in cs) (all-fours n);
-      measured = all-measured cs ts [] few;
+      measured = all-measured cs ts [] [] few;
     }
   where
     P : List ℕ

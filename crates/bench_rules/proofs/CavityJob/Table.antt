@@ -68,9 +68,9 @@ well : {n : ℕ} (a b c d : ℕ) → a < b → b < c → c < d → d < n → Wel
 unfolding rising four
 well a b c d ab bc cd dn = record { up = and-of (lt-ltb a b ab) (and-of (lt-ltb b c bc) (lt-ltb c d cd)); below = dn }
 
-pub all-measured : (cs : List ℤ) (ts es : List ℕ) → length (points-in cs) ≤ 16 → solid-unmeasured (job (job-lists cs ts es (cavity-table cs))) ≡ false
+pub all-measured : (cs : List ℤ) (ts es ks : List ℕ) → length (points-in cs) ≤ 16 → solid-unmeasured (job (job-lists cs ts es ks (cavity-table cs))) ≡ false
 unfolding solid-unmeasured job cavity-table entry
-all-measured cs ts es h =
+all-measured cs ts es ks h =
     over-false-of n 0 _ (λ a la ha. over-false-of (n - suc a) (suc a) _ (λ b lb hb. over-false-of (n - suc b) (suc b) _ (λ c lc hc.
     over-false-of (n - suc c) (suc c) _ (λ d ld hd. go a b c d (omega arith) (omega arith) (omega arith) (omega arith)))))
   where

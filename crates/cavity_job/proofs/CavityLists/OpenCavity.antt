@@ -131,7 +131,7 @@ module _ {cs : List ℤ} {ts qs cm pm : List ℕ} (o : Open-mesh cs ts qs cm pm)
   boundary-most = cavity-bounding open-bench open-cavity its-mesh its-cavity .most
 
   pub job-accepted :
-      job-refusal (job-lists (coordinates cs (marked 0 pm)) (renumbered (marked 0 pm) (cavity-triangles (bench-of cs ts [] none 0) (marked-cavity cm pm))) [] (cavity-table (coordinates cs (marked 0 pm))))
+      job-refusal (job-lists (coordinates cs (marked 0 pm)) (renumbered (marked 0 pm) (cavity-triangles (bench-of cs ts [] none 0) (marked-cavity cm pm))) [] [] (cavity-table (coordinates cs (marked 0 pm))))
       ≡ 0
   unfolding bench-of marked-cavity cavity-triangles Cavity-accepted
   job-accepted = cavity-accepted open-bench open-cavity (o .held-open)

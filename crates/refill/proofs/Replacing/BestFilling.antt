@@ -68,7 +68,7 @@ module _ {cs : List ℤ} {ts qs cm pm : List ℕ} (o : Open-mesh cs ts qs cm pm)
 
 -- ---- the search with a table that is measured
 pub table-searched :
-    (ps : List ℤ) (ts : List ℕ) {entry : List ℤ} {q : ℕ} (r : Found) (b : List ℕ) → In-array (pos 0) 1820 (cavity-table ps) entry q → Search-says (job-lists ps ts [] (take q entry)) r (replicate 7280 0) b →
+    (ps : List ℤ) (ts : List ℕ) {entry : List ℤ} {q : ℕ} (r : Found) (b : List ℕ) → In-array (pos 0) 1820 (cavity-table ps) entry q → Search-says (job-lists ps ts [] [] (take q entry)) r (replicate 7280 0) b →
     Answered ps ts (record { number = r .number; count = r .count; worst = r .worst; corner = b })
 table-searched ps ts r b t s =
-    record { says = subst (λ (u : List ℤ). Search-says (job-lists ps ts [] u) r (replicate 7280 0) b) (array-read (pos 0) 1820 (cavity-table ps) t) s }
+    record { says = subst (λ (u : List ℤ). Search-says (job-lists ps ts [] [] u) r (replicate 7280 0) b) (array-read (pos 0) 1820 (cavity-table ps) t) s }

@@ -63,10 +63,10 @@ pub record Has-open (cs : List ℤ) (ts cm pm : List ℕ) : Type 0 where
   pub qualities : List ℕ
   pub is-open : Open-mesh cs ts qualities cm pm
 
--- what the search says of a job with no kept edges and every four measured, where the lent buffer holds zeros
+-- what the search says of a job with no kept edges, no inner triangles and every four measured, where the lent buffer holds zeros
 pub record Answered (ps : List ℤ) (ts : List ℕ) (r : Answer) : Type 0 where
   pub says :
-      Search-says (job-lists ps ts [] (cavity-table ps)) (record { number = r .number; count = r .count; worst = r .worst }) (replicate 7280 0) (r .corner)
+      Search-says (job-lists ps ts [] [] (cavity-table ps)) (record { number = r .number; count = r .count; worst = r .worst }) (replicate 7280 0) (r .corner)
 
 pub record Filled-with (number count worst : ℕ) (fs : List Four) (f : Filling) : Type 0 where
   pub number-is : f .number ≡ number

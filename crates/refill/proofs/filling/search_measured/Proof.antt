@@ -16,26 +16,32 @@ array-share-prefix-kept c = search needs
 slice-aggregate-search : tie.Need-slice-aggregate-search
 slice-aggregate-search c = search needs
 
-array-share-prefix-entry : tie.Need-array-share-prefix-entry
-array-share-prefix-entry c =
-    let s = c .before .before .before .before in
-    array-room (pos 0) 1820 _ (table-held (s .args .points .now) (s .pre .1) (c .before .before .table-of .ensures))
+array-share-prefix-inner : tie.Need-array-share-prefix-inner
+array-share-prefix-inner c = search needs
 
 slice-aggregate-search-2 : tie.Need-slice-aggregate-search-2
-slice-aggregate-search-2 c =
+slice-aggregate-search-2 c = search needs
+
+array-share-prefix-entry : tie.Need-array-share-prefix-entry
+array-share-prefix-entry c =
     let s = c .before .before .before .before .before in
-    array-counted (pos 0) 1820 _ (table-held (s .args .points .now) (s .pre .1) (c .before .before .before .table-of .ensures))
+    array-room (pos 0) 1820 _ (table-held (s .args .points .now) (s .pre .1) (c .before .before .before .table-of .ensures))
 
 slice-aggregate-search-3 : tie.Need-slice-aggregate-search-3
-slice-aggregate-search-3 c = search needs
+slice-aggregate-search-3 c =
+    let s = c .before .before .before .before .before .before in
+    array-counted (pos 0) 1820 _ (table-held (s .args .points .now) (s .pre .1) (c .before .before .before .before .table-of .ensures))
+
+slice-aggregate-search-4 : tie.Need-slice-aggregate-search-4
+slice-aggregate-search-4 c = search needs
 
 search-requires : tie.Need-search-requires
 search-requires c κs = search needs
 
 returns : tie.Need-returns
 returns c =
-    let s = c .before .before .before .before .before .before .before .before in
-    let t = table-held (s .args .points .now) (s .pre .1) (c .before .before .before .before .before .before .table-of .ensures) in
+    let s = c .before .before .before .before .before .before .before .before .before in
+    let t = table-held (s .args .points .now) (s .pre .1) (c .before .before .before .before .before .before .before .table-of .ensures) in
     table-searched (s .args .points .now) (s .args .triangles .now) (c .before .search .result) _ t (c .before .search .ensures)
 
 pub search-measured-spec : {M : Type 1} → statement M
@@ -45,8 +51,10 @@ search-measured-spec =
     table-of-requires
     array-share-prefix-kept
     slice-aggregate-search
-    array-share-prefix-entry
+    array-share-prefix-inner
     slice-aggregate-search-2
+    array-share-prefix-entry
     slice-aggregate-search-3
+    slice-aggregate-search-4
     search-requires
     returns)
