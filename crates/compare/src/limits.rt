@@ -1,10 +1,14 @@
-// The cavities of document 01 that its table of proved ones leaves out: the greatest count of points, the greatest coordinate, the smallest buffer.
+// The cavities of document 01 that its table of proved ones leaves out: the greatest count of points, the greatest coordinate, the smallest buffer; and the greatest
+// count of inner triangles (document 02).
 use crate::trial::searched;
 use crate::trial::trial;
 use checker::check::check_job;
 use enumerator::fours::listed;
 use enumerator::fours::place_of;
+use enumerator::read::byte_at;
+use lines::list::front;
 use lines::list::front_integers;
+use lines::list::put;
 use lines::list::put_integer;
 use lines::tally::Counts;
 use random_jobs::boundary::put_boundary;
@@ -135,14 +139,15 @@ fn limit(
     points: &[i32],
     triangles: &[u8],
     kept: &[u8],
+    inner: &[u8],
     table: &[i32],
     chosen: &[u8],
     number: u32,
     tally: Counts,
 ) -> Counts {
-    let is_same = check_job(points, triangles, kept, table) == number;
+    let is_same = check_job(points, triangles, kept, inner, table) == number;
     let t = with_comparison(tally, is_same, 0, b"limit: job ");
-    trial(0, points, triangles, kept, table, chosen, t)
+    trial(0, points, triangles, kept, inner, table, chosen, t)
 }
 
 // 1 for the fours of the list; the others stay as they are.
@@ -157,8 +162,17 @@ fn with_both(points: &[i32], triangles: &[u8], around: &[u8], tally: Counts) -> 
     let mut table = [0i32; 1820];
     put_open(16, around, &mut table);
     let sixteen = front_integers(points, 48);
-    let t = limit(sixteen, triangles, b"\x00\x01", &table, around, 0, tally);
-    limit(points, triangles, b"", &table, around, 2, t)
+    let t = limit(
+        sixteen,
+        triangles,
+        b"\x00\x01",
+        b"\x01\x00\x02",
+        &table,
+        around,
+        0,
+        tally,
+    );
+    limit(points, triangles, b"", b"", &table, around, 2, t)
 }
 
 fn with_ring(tally: Counts) -> Counts {
@@ -170,13 +184,50 @@ fn with_ring(tally: Counts) -> Counts {
     with_both(&points, triangles, &around, tally)
 }
 
+// Puts the triangles over and over at the start of out, so many bytes of them, and hands them back.
+fn put_over<'a>(triangles: &[u8], len: usize, out: &'a mut [u8]) -> &'a [u8] {
+    for i in 0..len {
+        put(out, i, byte_at(triangles, i % 12, 0));
+    }
+    front(out, len)
+}
+
 // The corner of a cube, with the given size of it along x and z.
 fn with_corner(x: i32, z: i32, number: u32, tally: Counts) -> Counts {
     let points = [0, 0, 0, x, 0, 0, 0, 10_000, 0, 0, 0, z];
     let triangles = A;
     let chosen = CORNER;
     let table = [1i32];
-    limit(&points, &triangles, b"", &table, &chosen, number, tally)
+    limit(
+        &points,
+        &triangles,
+        b"",
+        b"",
+        &table,
+        &chosen,
+        number,
+        tally,
+    )
+}
+
+// The faces of the corner of a cube over and over, so many bytes of them, as inner triangles.
+fn with_inner(len: usize, number: u32, tally: Counts) -> Counts {
+    let points = [0, 0, 0, 1, 0, 0, 0, 1, 0, 0, 0, 1];
+    let triangles = A;
+    let chosen = CORNER;
+    let table = [1i32];
+    let mut room = [0u8; 1683];
+    let inner = put_over(&triangles, len, &mut room);
+    limit(
+        &points,
+        &triangles,
+        b"",
+        inner,
+        &table,
+        &chosen,
+        number,
+        tally,
+    )
 }
 
 // The search of the corner of a cube into a buffer.
@@ -188,6 +239,7 @@ fn with_buffer(answer: &mut [u8], number: u32, worst: u32, list: &[u8], tally: C
         0,
         &points,
         &triangles,
+        b"",
         b"",
         &table,
         number,
@@ -213,5 +265,10 @@ pub fn with_limits(tally: Counts) -> Counts {
     let t3 = with_corner(10_001, 10_000, 3, t2);
     let t4 = with_corner(-10_000, -10_000, 0, t3);
     let t5 = with_corner(10_000, -10_001, 3, t4);
-    with_buffers(t5)
+    // 560 inner triangles, 561, and two begun.
+    let t6 = with_inner(1680, 0, t5);
+    let t7 = with_inner(1683, 22, t6);
+    let t8 = with_inner(1, 22, t7);
+    let t9 = with_inner(1679, 22, t8);
+    with_buffers(t9)
 }

@@ -1,6 +1,6 @@
 // Compares the search, the judge and the checker with a plain enumerator and with the laws written anew: on the cavities of document 01 that are not proved as a
-// table, and on random jobs. How many jobs: the number on the one line of standard input, 3,600 where that is empty. Prints how many there were of each kind,
-// and how many comparisons differ. An argument, or an input that is no number, is refused on standard error. Assumes nothing; any bytes may come.
+// table, at the limit of the inner triangles, and on random jobs. How many jobs: the number on the one line of standard input, 3,600 where that is empty. Prints
+// how many there were of each kind, and how many comparisons differ. An argument, or an input that is no number, is refused on standard error. Assumes nothing; any bytes may come.
 mod limits;
 mod trial;
 
@@ -19,6 +19,8 @@ use lines::text::past;
 use random_jobs::boundary::put_boundary;
 use random_jobs::boundary::put_chosen;
 use random_jobs::damage::damage;
+use random_jobs::damage::inner_damage;
+use random_jobs::inner::put_inner;
 use random_jobs::kept::put_kept;
 use random_jobs::points::put_points;
 use random_jobs::table::put_table;
@@ -39,7 +41,10 @@ fn with_job(seed: u64, tally: Counts) -> Counts {
     let table = put_table(seed, d, points, chosen, &mut e);
     let mut f = [0u8; 256];
     let kept = put_kept(seed, d, points.len() / 3, chosen, &mut f);
-    trial(seed, points, triangles, kept, table, chosen, tally)
+    let mut g = [0u8; 1686];
+    let hurt = inner_damage(seed, d);
+    let inner = put_inner(seed, hurt, points.len() / 3, chosen, triangles, &mut g);
+    trial(seed, points, triangles, kept, inner, table, chosen, tally)
 }
 
 fn with_jobs(jobs: u64, tally: Counts) -> Counts {

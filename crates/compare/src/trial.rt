@@ -19,7 +19,7 @@ use trials::tally::LAWS;
 use trials::tally::REFUSED;
 use trials::tally::with_answer;
 use trials::tally::with_comparison;
-use trials::tally::with_filled;
+use trials::tally::with_kind;
 use trials::tally::with_skipped;
 
 // Compares the search of a job into the buffer: the number, the worst quality and the list, with every byte of the buffer.
@@ -28,6 +28,7 @@ pub fn searched(
     points: &[i32],
     triangles: &[u8],
     kept: &[u8],
+    inner: &[u8],
     table: &[i32],
     number: u32,
     worst: u32,
@@ -36,7 +37,7 @@ pub fn searched(
     tally: Counts,
 ) -> Counts {
     put_pattern(answer);
-    let f = search(points, triangles, kept, table, answer);
+    let f = search(points, triangles, kept, inner, table, answer);
     let is_same = (f.number == number)
         & (f.worst == worst)
         & (f.count as usize == list.len() / 4)
@@ -50,6 +51,7 @@ fn judged(
     points: &[i32],
     triangles: &[u8],
     kept: &[u8],
+    inner: &[u8],
     table: &[i32],
     list: &[u8],
     number: u32,
@@ -57,7 +59,7 @@ fn judged(
     worst: u32,
     tally: Counts,
 ) -> Counts {
-    let v = judge(points, triangles, kept, table, list);
+    let v = judge(points, triangles, kept, inner, table, list);
     let is_same = (v.number == number) & (v.law == law) & (v.worst == worst);
     with_comparison(tally, is_same, seed, b"judge: job ")
 }
@@ -68,6 +70,7 @@ fn with_list(
     points: &[i32],
     triangles: &[u8],
     kept: &[u8],
+    inner: &[u8],
     table: &[i32],
     base: &[u8],
     pool: &[u8],
@@ -76,14 +79,26 @@ fn with_list(
 ) -> Counts {
     let mut room = [0u8; ROOM];
     let list = put_list(seed, points.len() / 3, base, pool, way, &mut room);
-    let law = lowest_broken(points, triangles, kept, table, list);
+    let law = lowest_broken(points, triangles, kept, inner, table, list);
     let q = if law == 0 {
         worst(points, table, list)
     } else {
         0
     };
     let t = tally.more(LAWS + law as usize);
-    judged(seed, points, triangles, kept, table, list, 0, law, q, t)
+    judged(
+        seed,
+        points,
+        triangles,
+        kept,
+        inner,
+        table,
+        list,
+        0,
+        law,
+        q,
+        t,
+    )
 }
 
 fn with_lists(
@@ -91,6 +106,7 @@ fn with_lists(
     points: &[i32],
     triangles: &[u8],
     kept: &[u8],
+    inner: &[u8],
     table: &[i32],
     base: &[u8],
     pool: &[u8],
@@ -98,7 +114,18 @@ fn with_lists(
 ) -> Counts {
     let mut t = tally;
     for way in 0..how_many_lists(pool) {
-        t = with_list(seed, points, triangles, kept, table, base, pool, way, t);
+        t = with_list(
+            seed,
+            points,
+            triangles,
+            kept,
+            inner,
+            table,
+            base,
+            pool,
+            way,
+            t,
+        );
     }
     t
 }
@@ -109,33 +136,76 @@ fn accepted(
     points: &[i32],
     triangles: &[u8],
     kept: &[u8],
+    inner: &[u8],
     table: &[i32],
     chosen: &[u8],
     pool: &[u8],
-    answer: &mut [u8],
     tally: Counts,
 ) -> Counts {
-    let best = best_filling(points, triangles, kept, table, pool);
+    let best = best_filling(points, triangles, kept, inner, table, pool);
     let mut room = [0u8; ROOM];
     let list = put_subset(pool, best.subset, &mut room);
     let number = if best.lawful == 0 { 15 } else { 0 };
+    let mut answer = [0u8; 7280];
+    let s = searched(
+        seed,
+        points,
+        triangles,
+        kept,
+        inner,
+        table,
+        number,
+        best.worst,
+        list,
+        &mut answer,
+        tally,
+    );
+    let t = with_kind(seed, points, triangles, kept, inner, list, best, s);
+    if number == 15 {
+        return with_lists(seed, points, triangles, kept, inner, table, chosen, pool, t);
+    }
+    with_lists(seed, points, triangles, kept, inner, table, list, pool, t)
+}
+
+// A job that is refused with this number.
+fn refused(
+    seed: u64,
+    points: &[i32],
+    triangles: &[u8],
+    kept: &[u8],
+    inner: &[u8],
+    table: &[i32],
+    chosen: &[u8],
+    number: u32,
+    tally: Counts,
+) -> Counts {
+    let mut answer = [0u8; 7280];
     let t = searched(
         seed,
         points,
         triangles,
         kept,
+        inner,
         table,
         number,
-        best.worst,
-        list,
-        answer,
+        0,
+        b"",
+        &mut answer,
         tally,
     );
-    if best.lawful == 0 {
-        return with_lists(seed, points, triangles, kept, table, chosen, pool, t);
-    }
-    let all = with_filled(seed, points, triangles, kept, list, best, t);
-    with_lists(seed, points, triangles, kept, table, list, pool, all)
+    judged(
+        seed,
+        points,
+        triangles,
+        kept,
+        inner,
+        table,
+        chosen,
+        number,
+        0,
+        0,
+        t.more(REFUSED),
+    )
 }
 
 // Compares what the kernel says of one job with what the laws say.
@@ -144,39 +214,25 @@ pub fn trial(
     points: &[i32],
     triangles: &[u8],
     kept: &[u8],
+    inner: &[u8],
     table: &[i32],
     chosen: &[u8],
     tally: Counts,
 ) -> Counts {
-    let number = refusal(points, triangles, kept, table);
-    let is_same = check_job(points, triangles, kept, table) == number;
+    let number = refusal(points, triangles, kept, inner, table);
+    let is_same = check_job(points, triangles, kept, inner, table) == number;
     let t = with_comparison(tally, is_same, seed, b"checker: job ");
-    let mut answer = [0u8; 7280];
     if number != 0 {
-        let s = searched(
+        return refused(
             seed,
             points,
             triangles,
             kept,
-            table,
-            number,
-            0,
-            b"",
-            &mut answer,
-            t,
-        );
-        let all = s.more(REFUSED);
-        return judged(
-            seed,
-            points,
-            triangles,
-            kept,
+            inner,
             table,
             chosen,
             number,
-            0,
-            0,
-            all,
+            t,
         );
     }
     let mut room = [0u8; ROOM];
@@ -184,15 +240,5 @@ pub fn trial(
     if pool.len() / 4 > MOST {
         return with_skipped(t);
     }
-    accepted(
-        seed,
-        points,
-        triangles,
-        kept,
-        table,
-        chosen,
-        pool,
-        &mut answer,
-        t,
-    )
+    accepted(seed, points, triangles, kept, inner, table, chosen, pool, t)
 }

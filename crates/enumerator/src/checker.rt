@@ -1,4 +1,5 @@
-// Numbers 2 to 13 of document 01, each straight from its line of the table. Nothing here is taken from the kernel's checker.
+// Numbers 2 to 13, 22 and 23 of documents 01 and 02, each straight from its line of the table. Nothing here is taken from the kernel's checker.
+use crate::faces::Triangle;
 use crate::faces::has_edge;
 use crate::faces::reversed;
 use crate::faces::stands;
@@ -40,12 +41,13 @@ fn how_often(triangles: &[u8], p: usize, q: usize) -> usize {
     n
 }
 
-// Numbers that are about how many there are: 4 to 16 points, 4 to 560 triangles, up to 120 kept edges, an entry for each four.
+// Numbers that are about how many there are: 4 to 16 points, 4 to 560 triangles, up to 120 kept edges, up to 560 inner triangles, an entry for each four.
 fn is_miscounted(
     number: u32,
     points: &[i32],
     triangles: &[u8],
     kept: &[u8],
+    inner: &[u8],
     table: &[i32],
 ) -> bool {
     match number {
@@ -61,18 +63,36 @@ fn is_miscounted(
             let len = kept.len();
             (len % 2 != 0) | (len > 240)
         }
+        22 => {
+            let len = inner.len();
+            (len % 3 != 0) | (len > 1680)
+        }
         11 => table.len() != how_many(points.len() / 3),
         _ => false,
     }
 }
 
+// Numbers 6 and 23: a point of t is absent, of n, or two are the same.
+fn is_bad(t: Triangle, n: usize) -> bool {
+    (t.a >= n) | (t.b >= n) | (t.c >= n) | (t.a == t.b) | (t.b == t.c) | (t.a == t.c)
+}
+
+// Number 10.
+fn is_bad_edge(kept: &[u8], i: usize, n: usize) -> bool {
+    let at = start(i, 2);
+    let p = byte_at(kept, at, 0);
+    let q = byte_at(kept, at, 1);
+    (p >= n) | (q >= n) | (p == q)
+}
+
 // Whether the number refuses the job for the i-th of what it is about: coordinates (3), points (4), triangles (6, 7), pairs of 16 points (8), kept edges (10),
-// entries (12, 13). Three different points make a triangle and its reverse (7).
+// inner triangles (23), entries (12, 13). Three different points make a triangle and its reverse (7).
 fn is_wrong(
     number: u32,
     points: &[i32],
     triangles: &[u8],
     kept: &[u8],
+    inner: &[u8],
     table: &[i32],
     i: usize,
 ) -> bool {
@@ -83,10 +103,7 @@ fn is_wrong(
             (x < -10_000) | (x > 10_000)
         }
         4 => is_taken(points, i),
-        6 => {
-            let t = triangle_at(triangles, i);
-            (t.a >= n) | (t.b >= n) | (t.c >= n) | (t.a == t.b) | (t.b == t.c) | (t.a == t.c)
-        }
+        6 => is_bad(triangle_at(triangles, i), n),
         7 => {
             let t = triangle_at(triangles, i);
             let from = plus(i, 1);
@@ -97,12 +114,8 @@ fn is_wrong(
             let q = i % 16;
             how_often(triangles, p, q) != how_often(triangles, q, p)
         }
-        10 => {
-            let at = start(i, 2);
-            let p = byte_at(kept, at, 0);
-            let q = byte_at(kept, at, 1);
-            (p >= n) | (q >= n) | (p == q)
-        }
+        10 => is_bad_edge(kept, i, n),
+        23 => is_bad(triangle_at(inner, i), n),
         12 => {
             let v = number_at(table, i, 0);
             (v < -1) | (v > 1_000_000)
@@ -112,28 +125,41 @@ fn is_wrong(
     }
 }
 
-fn is_refused(number: u32, points: &[i32], triangles: &[u8], kept: &[u8], table: &[i32]) -> bool {
+fn is_refused(
+    number: u32,
+    points: &[i32],
+    triangles: &[u8],
+    kept: &[u8],
+    inner: &[u8],
+    table: &[i32],
+) -> bool {
     let many = match number {
         3 => points.len(),
         4 => points.len() / 3,
         6 | 7 => triangles.len() / 3,
         8 => 256,
         10 => kept.len() / 2,
+        23 => inner.len() / 3,
         _ => table.len(),
     };
     for i in 0..upto(many, LONGEST) {
-        if is_wrong(number, points, triangles, kept, table, i) {
+        if is_wrong(number, points, triangles, kept, inner, table, i) {
             return true;
         }
     }
     false
 }
 
-// The lowest number that refuses the job, 0 for none.
-pub fn refusal(points: &[i32], triangles: &[u8], kept: &[u8], table: &[i32]) -> u32 {
-    for number in 2..14 {
-        if is_miscounted(number, points, triangles, kept, table)
-            | is_refused(number, points, triangles, kept, table)
+// The numbers in the order of their places: 22 and 23 behind 10 (document 02).
+const ORDER: [u32; 14] = [2, 3, 4, 5, 6, 7, 8, 9, 10, 22, 23, 11, 12, 13];
+
+// The number whose place comes first of those that refuse the job, 0 for none.
+pub fn refusal(points: &[i32], triangles: &[u8], kept: &[u8], inner: &[u8], table: &[i32]) -> u32 {
+    let order = ORDER;
+    for i in 0..14 {
+        let number = order[i];
+        if is_miscounted(number, points, triangles, kept, inner, table)
+            | is_refused(number, points, triangles, kept, inner, table)
         {
             return number;
         }

@@ -91,6 +91,7 @@ pub fn best_filling(
     points: &[i32],
     triangles: &[u8],
     kept: &[u8],
+    inner: &[u8],
     table: &[i32],
     pool: &[u8],
 ) -> Best {
@@ -103,7 +104,7 @@ pub fn best_filling(
     for s in 0..1 << upto(pool.len() / 4, MOST) {
         let mut room = [0u8; ROOM];
         let list = put_subset(pool, s, &mut room);
-        if lowest_broken(points, triangles, kept, table, list) == 0 {
+        if lowest_broken(points, triangles, kept, inner, table, list) == 0 {
             best = with_lawful(s, worst(points, table, list), best);
         }
     }

@@ -1,6 +1,7 @@
-// The seven laws of document 01, each straight from its sentence. Nothing here is taken from the judge or the search; of the geometry only D, the
+// The eight laws of documents 01 and 02, each straight from its sentence. Nothing here is taken from the judge or the search; of the geometry only D, the
 // order that makes it positive, strictly inside and apart are.
 // A list of up to 64 fours.
+use crate::faces::Triangle;
 use crate::faces::put_faces;
 use crate::faces::reversed;
 use crate::faces::stands;
@@ -88,14 +89,34 @@ pub fn is_apart_from(points: &[i32], list: &[u8], f: Four, from: usize) -> bool 
     true
 }
 
-// Whether the i-th of what the law is about breaks it: fours (1, 2, 3, 5), the list (4), points (6), kept edges (7).
-// Law 1: a four of present points, before the next one. Behind the last one noughts are read, whose place is behind all fours.
 // Laws 6 and 7: a tetrahedron has the point, or both points, for corners.
+fn holds_both(list: &[u8], p: usize, q: usize) -> bool {
+    is_covered(
+        list,
+        Four {
+            a: p,
+            b: q,
+            c: p,
+            d: q,
+        },
+    )
+}
+
+// Law 8: the inner triangle is, in one direction or the other, a face of some tetrahedron.
+fn is_faced(points: &[i32], list: &[u8], t: Triangle) -> bool {
+    let mut room = [0u8; FACES];
+    let faces = put_faces(points, list, &mut room);
+    stands(faces, 0, t) | stands(faces, 0, reversed(t))
+}
+
+// Whether the i-th of what the law is about breaks it: fours (1, 2, 3, 5), the list (4), points (6), kept edges (7), inner triangles (8).
+// Law 1: a four of present points, before the next one. Behind the last one noughts are read, whose place is behind all fours.
 fn breaks(
     law: u32,
     points: &[i32],
     triangles: &[u8],
     kept: &[u8],
+    inner: &[u8],
     table: &[i32],
     list: &[u8],
     i: usize,
@@ -107,29 +128,12 @@ fn breaks(
         3 => holds_a_point(points, listed(list, i)),
         4 => !keeps_4(points, triangles, list),
         5 => !is_apart_from(points, list, listed(list, i), plus(i, 1)),
-        6 => !is_covered(
-            list,
-            Four {
-                a: i,
-                b: i,
-                c: i,
-                d: i,
-            },
-        ),
-        _ => {
+        6 => !holds_both(list, i, i),
+        7 => {
             let at = start(i, 2);
-            let p = byte_at(kept, at, 0);
-            let q = byte_at(kept, at, 1);
-            !is_covered(
-                list,
-                Four {
-                    a: p,
-                    b: q,
-                    c: p,
-                    d: q,
-                },
-            )
+            !holds_both(list, byte_at(kept, at, 0), byte_at(kept, at, 1))
         }
+        _ => !is_faced(points, list, triangle_at(inner, i)),
     }
 }
 
@@ -138,6 +142,7 @@ fn is_broken(
     points: &[i32],
     triangles: &[u8],
     kept: &[u8],
+    inner: &[u8],
     table: &[i32],
     list: &[u8],
 ) -> bool {
@@ -145,10 +150,11 @@ fn is_broken(
         4 => 1,
         6 => points.len() / 3,
         7 => kept.len() / 2,
+        8 => inner.len() / 3,
         _ => list.len() / 4,
     };
     for i in 0..upto(many, LONGEST) {
-        if breaks(law, points, triangles, kept, table, list, i) {
+        if breaks(law, points, triangles, kept, inner, table, list, i) {
             return true;
         }
     }
@@ -160,14 +166,15 @@ pub fn lowest_broken(
     points: &[i32],
     triangles: &[u8],
     kept: &[u8],
+    inner: &[u8],
     table: &[i32],
     list: &[u8],
 ) -> u32 {
     if list.len() % 4 != 0 {
         return 1;
     }
-    for law in 1..8 {
-        if is_broken(law, points, triangles, kept, table, list) {
+    for law in 1..9 {
+        if is_broken(law, points, triangles, kept, inner, table, list) {
             return law;
         }
     }

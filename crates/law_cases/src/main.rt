@@ -1,8 +1,8 @@
 // Checks every job and judges every list of the standard input, and compares with what the line says. A line is one of
-//   J;NAME;POINTS;TRIANGLES;KEPT;TABLE;NUMBER   a job: lists of numbers parted by commas, where v*n in POINTS and TABLE is n times v;
-//                                               NUMBER is what the checker gives, 0 where it lets the job pass
-//   L;LIST;RESULT                               a list for the last job before it: W,q lawful with worst quality q, L,k lowest law broken,
-//                                               R,k job refused
+//   J;NAME;POINTS;TRIANGLES;KEPT;INNER;TABLE;NUMBER   a job: lists of numbers parted by commas, where v*n in POINTS and TABLE is n times v;
+//                                                     NUMBER is what the checker gives, 0 where it lets the job pass
+//   L;LIST;RESULT                                     a list for the last job before it: W,q lawful with worst quality q, L,k lowest law broken,
+//                                                     R,k job refused
 // Any other line, and one with a list too long for the program, is counted as unread and as different. Assumes nothing; any bytes may come.
 mod answer;
 mod tally;

@@ -10,7 +10,7 @@ use lines::text::before;
 use lines::text::part;
 use lines::text::past;
 
-// Where is counted, in the order in which the counts are printed. Jobs by the checker's number: PASS for 0, and 2 to 13 behind it; lists of jobs that pass from LAWS
+// Where is counted, in the order in which the counts are printed. Jobs by the checker's number: PASS for 0, and 2 to 13, 22 and 23 behind it; lists of jobs that pass from LAWS
 // on, by the lowest law broken, 0 for lawful ones; the other lists are refused.
 const LINES: usize = 0;
 
@@ -20,15 +20,19 @@ const JOBS: usize = 2;
 
 const PASS: usize = 3;
 
-const LISTS: usize = 16;
+const REFUSED_22: usize = 16;
 
-const REFUSED: usize = 17;
+const REFUSED_23: usize = 17;
 
-const LAWS: usize = 18;
+const LISTS: usize = 18;
 
-const AGREE: usize = 26;
+const REFUSED: usize = 19;
 
-const DIFFER: usize = 27;
+const LAWS: usize = 20;
+
+const AGREE: usize = 29;
+
+const DIFFER: usize = 30;
 
 const NOWHERE: usize = 64;
 
@@ -47,17 +51,19 @@ fn letter(t: &[u8]) -> u8 {
     if t.len() == 1 { t[0] } else { 0 }
 }
 
-// A job: POINTS;TRIANGLES;KEPT;TABLE;NUMBER
+// A job: POINTS;TRIANGLES;KEPT;INNER;TABLE;NUMBER
 fn checked(a: Answer, expected: &[u8]) -> Outcome {
-    let second = if a.checked == 0 {
-        PASS
-    } else {
-        a.checked as usize + 2
+    let k = a.checked;
+    let second = match k {
+        0 => PASS,
+        22 => REFUSED_22,
+        23 => REFUSED_23,
+        _ => k as usize + 2,
     };
     Outcome {
         first: JOBS,
         second,
-        agrees: number(expected, 10) == a.checked as u64,
+        agrees: number(expected, 10) == k as u64,
     }
 }
 
@@ -85,12 +91,18 @@ fn judged(a: Answer, expected: &[u8]) -> Outcome {
     }
 }
 
+// What stands behind the job's five lists.
+fn expected_of(job: &[u8]) -> &[u8] {
+    let fourth = after(after(after(job, b';'), b';'), b';');
+    after(after(fourth, b';'), b';')
+}
+
 // A line with this letter. The job is that of the last line that has one, from POINTS on.
 fn played(kind: u8, job: &[u8], case: &[u8]) -> Outcome {
     if kind == b'J' {
         let a = answer_of(job, b"");
         if a.is_read {
-            return checked(a, after(after(after(after(job, b';'), b';'), b';'), b';'));
+            return checked(a, expected_of(job));
         }
     }
     if kind == b'L' {
@@ -125,8 +137,8 @@ pub fn print_tally(tally: Counts) {
     tally.print(
         0,
         b" lines, ; unread\n; jobs: ; pass, ; refused 2, ; refused 3, ; refused 4, ; refused 5, ; refused 6, ; refused 7, ; refused 8, ; refused 9, ; refused 10, ; \
-        refused 11, ; refused 12, ; refused 13\n; lists: ; of a refused job, ; lawful, ; break law 1, ; break law 2, ; break law 3, ; break law 4, ; break law 5, ; \
-        break law 6, ; break law 7\n; agree, ; differ\n;",
+        refused 11, ; refused 12, ; refused 13, ; refused 22, ; refused 23\n; lists: ; of a refused job, ; lawful, ; break law 1, ; break law 2, ; break law 3, ; break law 4, ; break law 5, ; \
+        break law 6, ; break law 7, ; break law 8\n; agree, ; differ\n;",
     );
 }
 

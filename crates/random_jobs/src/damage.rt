@@ -56,11 +56,24 @@ pub const ENTRY_HIGH: u64 = 24;
 
 pub const UNMEASURED: u64 = 25;
 
-const KINDS: u64 = 26;
+pub const HALF_AN_INNER: u64 = 26;
+
+pub const INNER_561: u64 = 27;
+
+// Not refused.
+pub const INNER_560: u64 = 28;
+
+pub const ABSENT_IN_INNER: u64 = 29;
+
+pub const REPEATED_IN_INNER: u64 = 30;
+
+const KINDS: u64 = 31;
 
 const HURT: u64 = 10;
 
 const KIND: u64 = 11;
+
+const SECOND: u64 = 12;
 
 // In a job of five: any of them.
 pub fn damage(seed: u64) -> u64 {
@@ -68,4 +81,19 @@ pub fn damage(seed: u64) -> u64 {
         return drawn(seed, KIND, 0, KINDS);
     }
     NOTHING
+}
+
+// What is wrong with the inner triangles: the job's damage where it is theirs, else theirs as well in a damaged job of three, so that it stands beside every other
+// number.
+pub fn inner_damage(seed: u64, d: u64) -> u64 {
+    if (d != NOTHING) & (d < HALF_AN_INNER) & chance(seed, SECOND, 0, 3) {
+        return match drawn(seed, SECOND, 1, 5) {
+            0 => HALF_AN_INNER,
+            1 => INNER_561,
+            2 => INNER_560,
+            3 => ABSENT_IN_INNER,
+            _ => REPEATED_IN_INNER,
+        };
+    }
+    d
 }

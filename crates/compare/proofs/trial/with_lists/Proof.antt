@@ -5,10 +5,10 @@ use Rattle.compare.proofs.trial.with_lists.Statement.{statement}
 use Rattle.compare.proofs.trial.with_lists.Tie as tie
 
 abbrev Inv-loop : tie.InvT-loop
-Inv-loop seed points triangles kept table base pool t₀ way₀ way-end t way = Unit {0}
+Inv-loop seed points triangles kept inner table base pool t₀ way₀ way-end t way = Unit {0}
 
 abbrev μ-loop : tie.MeasureT-loop
-μ-loop seed points triangles kept table base pool t₀ way₀ way-end t way = way-end - way
+μ-loop seed points triangles kept inner table base pool t₀ way₀ way-end t way = way-end - way
 
 how-many-lists-requires : tie.Need-how-many-lists-requires Inv-loop μ-loop
 how-many-lists-requires c κs = search needs

@@ -5,10 +5,10 @@ use Rattle.enumerator.proofs.checker.is_refused.Statement.{statement}
 use Rattle.enumerator.proofs.checker.is_refused.Tie as tie
 
 abbrev Inv-loop : tie.InvT-loop
-Inv-loop number points triangles kept table many i₀ i-end i = Unit {0}
+Inv-loop number points triangles kept inner table many i₀ i-end i = Unit {0}
 
 abbrev μ-loop : tie.MeasureT-loop
-μ-loop number points triangles kept table many i₀ i-end i = i-end - i
+μ-loop number points triangles kept inner table many i₀ i-end i = i-end - i
 
 upto-requires : tie.Need-upto-requires Inv-loop μ-loop
 upto-requires c κs = search needs

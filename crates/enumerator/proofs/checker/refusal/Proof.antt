@@ -5,13 +5,19 @@ use Rattle.enumerator.proofs.checker.refusal.Statement.{statement}
 use Rattle.enumerator.proofs.checker.refusal.Tie as tie
 
 abbrev Inv-loop : tie.InvT-loop
-Inv-loop points triangles kept table number₀ number = Unit {0}
+Inv-loop points triangles kept inner table order i₀ i = Unit {0}
 
 abbrev μ-loop : tie.MeasureT-loop
-μ-loop points triangles kept table number₀ number = 14 - number
+μ-loop points triangles kept inner table order i₀ i = 14 - i
 
 loop-holds : tie.Need-loop-holds Inv-loop μ-loop
 loop-holds c = search needs
+
+mul-number : tie.Need-mul-number Inv-loop μ-loop
+mul-number c = search needs
+
+array-read-number : tie.Need-array-read-number Inv-loop μ-loop
+array-read-number c = search needs
 
 is-miscounted-requires : tie.Need-is-miscounted-requires Inv-loop μ-loop
 is-miscounted-requires c κs = search needs
@@ -22,8 +28,8 @@ is-refused-requires c κs = search needs
 returns : tie.Need-returns Inv-loop μ-loop
 returns c = search needs
 
-add-number : tie.Need-add-number Inv-loop μ-loop
-add-number c = search needs
+add-i : tie.Need-add-i Inv-loop μ-loop
+add-i c = search needs
 
 loop-less : tie.Need-loop-less Inv-loop μ-loop
 loop-less c = search needs
@@ -41,10 +47,12 @@ refusal-spec =
     Inv-loop
     μ-loop
     loop-holds
+    mul-number
+    array-read-number
     is-miscounted-requires
     is-refused-requires
     returns
-    add-number
+    add-i
     loop-less
     loop-again
     returns-2)

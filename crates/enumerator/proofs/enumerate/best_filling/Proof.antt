@@ -5,10 +5,10 @@ use Rattle.enumerator.proofs.enumerate.best_filling.Statement.{statemen
 use Rattle.enumerator.proofs.enumerate.best_filling.Tie as tie
 
 abbrev Inv-loop : tie.InvT-loop
-Inv-loop points triangles kept table pool best₀ s₀ s-end best s = Unit {0}
+Inv-loop points triangles kept inner table pool best₀ s₀ s-end best s = Unit {0}
 
 abbrev μ-loop : tie.MeasureT-loop
-μ-loop points triangles kept table pool best₀ s₀ s-end best s = s-end - s
+μ-loop points triangles kept inner table pool best₀ s₀ s-end best s = s-end - s
 
 upto-requires : tie.Need-upto-requires Inv-loop μ-loop
 upto-requires c κs = search needs

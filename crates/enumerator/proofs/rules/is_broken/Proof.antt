@@ -5,10 +5,10 @@ use Rattle.enumerator.proofs.rules.is_broken.Statement.{statement}
 use Rattle.enumerator.proofs.rules.is_broken.Tie as tie
 
 abbrev Inv-loop : tie.InvT-loop
-Inv-loop law points triangles kept table list many i₀ i-end i = Unit {0}
+Inv-loop law points triangles kept inner table list many i₀ i-end i = Unit {0}
 
 abbrev μ-loop : tie.MeasureT-loop
-μ-loop law points triangles kept table list many i₀ i-end i = i-end - i
+μ-loop law points triangles kept inner table list many i₀ i-end i = i-end - i
 
 upto-requires : tie.Need-upto-requires Inv-loop μ-loop
 upto-requires c κs = search needs

@@ -5,10 +5,10 @@ use Rattle.enumerator.proofs.rules.lowest_broken.Statement.{statement}
 use Rattle.enumerator.proofs.rules.lowest_broken.Tie as tie
 
 abbrev Inv-loop : tie.InvT-loop
-Inv-loop points triangles kept table list law₀ law = Unit {0}
+Inv-loop points triangles kept inner table list law₀ law = Unit {0}
 
 abbrev μ-loop : tie.MeasureT-loop
-μ-loop points triangles kept table list law₀ law = 8 - law
+μ-loop points triangles kept inner table list law₀ law = 9 - law
 
 returns : tie.Need-returns Inv-loop μ-loop
 returns c = search needs
