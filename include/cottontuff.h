@@ -45,13 +45,14 @@ int main(void) {
 extern "C" {
 #endif
 
-#define COTTONTUFF_VERSION "1.0.1"
+#define COTTONTUFF_VERSION "1.1.0"
 
 /* ---- sizes of a job */
 #define COTTONTUFF_LEAST_POINTS 4
 #define COTTONTUFF_MOST_POINTS 16
 #define COTTONTUFF_MOST_TRIANGLES 560                          /* threes of 16 points: 16 * 15 * 14 / 6 */
 #define COTTONTUFF_MOST_KEPT 120                               /* twos of 16 points: 16 * 15 / 2 */
+#define COTTONTUFF_MOST_INNER 560                              /* threes of 16 points */
 #define COTTONTUFF_MOST_FOURS 1820                             /* fours of 16 points: 16 * 15 * 14 * 13 / 24 */
 #define COTTONTUFF_TABLE_LENGTH_OF(n) ((n) * ((n)-1) * ((n)-2) * ((n)-3) / 24) /* entries of the table of n points */
 #define COTTONTUFF_ANSWER_BYTES (4 * COTTONTUFF_MOST_FOURS)    /* 7,280: the least length of the search's buffer */
@@ -68,11 +69,12 @@ extern "C" {
 #define COTTONTUFF_BENCH_POINTS 64
 #define COTTONTUFF_BENCH_TETS 256
 
-/* A stack for cottontuff_search, cottontuff_print and cottontuff_bench_replace. Each level of the search's recursion sets a tetrahedron, and no more than 280 can be set at once: the second is
- * proved. A level takes 880 bytes, read off the library, and 481,688 was the deepest that was measured, levels included (docs/BENCHMARKS.md): the compiler's part is not proved. */
+/* A stack for cottontuff_search, cottontuff_search_inner, cottontuff_print and cottontuff_bench_replace. Each level of the search's recursion sets a tetrahedron, and no more than 280 can be set at once: the second is
+ * proved. A level takes 912 bytes, read off the library, and 481,816 was the deepest that was measured, levels included (docs/BENCHMARKS.md): the compiler's part is not proved. */
 #define COTTONTUFF_STACK_BYTES (768 * 1024)
 
-/* ---- what is answered: the lowest number that applies */
+/* ---- what is answered: of the numbers that apply, the one whose place comes first, whatever its size.
+ * The places of a job's numbers: 1; 2 to 10; 22; 23; 11; 12; 13; 14; 15. */
 enum cottontuff_number {
     COTTONTUFF_DONE = 0,
     COTTONTUFF_BAD_TEXT = 1,         /* printout: over 65,536 bytes, or not of the form */
@@ -85,6 +87,8 @@ enum cottontuff_number {
     COTTONTUFF_OPEN_BOUNDARY = 8,    /* a directed edge stands more or less often than its reverse */
     COTTONTUFF_KEPT_COUNT = 9,       /* over 120 kept edges, or odd length */
     COTTONTUFF_BAD_KEPT = 10,        /* a kept edge with an absent or repeated point */
+    COTTONTUFF_INNER_COUNT = 22,     /* over 560 inner triangles, or length no multiple of 3 */
+    COTTONTUFF_BAD_INNER = 23,       /* an inner triangle with an absent or repeated point */
     COTTONTUFF_TABLE_LENGTH = 11,    /* not one entry for each four of points */
     COTTONTUFF_BAD_ENTRY = 12,       /* an entry below -1 or above 1,000,000 */
     COTTONTUFF_UNMEASURED = 13,      /* a solid four has entry -1: measure it. It is not barred; 0 bars. */
@@ -109,16 +113,21 @@ enum cottontuff_number {
  * points: x, y, z of each point, numbered from 0.
  * triangles: three point numbers each, counter-clockwise seen from outside the cavity.
  * kept: two point numbers for each edge that the filling must have; an edge may be repeated or reversed.
+ * inner: three point numbers for each triangle inside that the filling must have as a face, whichever way round; one may be repeated or reversed, and a boundary triangle may be listed.
  * table: a quality for each four of points a < b < c < d, in lexicographic order (0123, 0124, 0134, 0234, 1234 for five points):
- *        1 to 1,000,000 millionths, 0 bars the four, -1 leaves it unmeasured, which only a flat four may be. */
+ *        1 to 1,000,000 millionths, 0 bars the four, -1 leaves it unmeasured, which only a flat four may be.
+ * A function whose name ends in _inner takes the list inner; the one without means a job that has none, and answers what it answers for an empty list. */
 
-/* 0 for a job that can be searched, else 2 to 13. */
+/* 0 for a job that can be searched, else 2 to 13, 22 or 23. */
 uint32_t cottontuff_check(const int32_t *points, size_t points_len, const uint8_t *triangles, size_t triangles_len,
                           const uint8_t *kept, size_t kept_len, const int32_t *table, size_t table_len);
+uint32_t cottontuff_check_inner(const int32_t *points, size_t points_len, const uint8_t *triangles, size_t triangles_len,
+                                const uint8_t *kept, size_t kept_len, const uint8_t *inner, size_t inner_len,
+                                const int32_t *table, size_t table_len);
 
 typedef struct {
-    uint32_t number; /* 0, or 2 to 13, and then the rest is 0 */
-    uint32_t law;    /* 0, or the lowest law broken, 1 to 7 */
+    uint32_t number; /* 0, or 2 to 13, 22 or 23, and then the rest is 0 */
+    uint32_t law;    /* 0, or the lowest law broken, 1 to 8 */
     uint32_t worst;  /* the worst quality, in millionths, where no law is broken */
 } cottontuff_verdict;
 
@@ -126,9 +135,12 @@ typedef struct {
 cottontuff_verdict cottontuff_judge(const int32_t *points, size_t points_len, const uint8_t *triangles, size_t triangles_len,
                                     const uint8_t *kept, size_t kept_len, const int32_t *table, size_t table_len,
                                     const uint8_t *list, size_t list_len);
+cottontuff_verdict cottontuff_judge_inner(const int32_t *points, size_t points_len, const uint8_t *triangles, size_t triangles_len,
+                                          const uint8_t *kept, size_t kept_len, const uint8_t *inner, size_t inner_len,
+                                          const int32_t *table, size_t table_len, const uint8_t *list, size_t list_len);
 
 typedef struct {
-    uint32_t number; /* 0, or 2 to 15, and then the rest is 0 */
+    uint32_t number; /* 0, or 2 to 15, 22 or 23, and then the rest is 0 */
     uint32_t count;  /* tetrahedra of the filling */
     uint32_t worst;  /* their least quality, in millionths */
 } cottontuff_found;
@@ -138,6 +150,9 @@ typedef struct {
 cottontuff_found cottontuff_search(const int32_t *points, size_t points_len, const uint8_t *triangles, size_t triangles_len,
                                    const uint8_t *kept, size_t kept_len, const int32_t *table, size_t table_len,
                                    uint8_t *answer, size_t answer_len);
+cottontuff_found cottontuff_search_inner(const int32_t *points, size_t points_len, const uint8_t *triangles, size_t triangles_len,
+                                         const uint8_t *kept, size_t kept_len, const uint8_t *inner, size_t inner_len,
+                                         const int32_t *table, size_t table_len, uint8_t *answer, size_t answer_len);
 
 /* ---- measuring */
 typedef struct {

@@ -1,4 +1,4 @@
-//! Cottontuff, the cavity kernel, for Rust: the functions of include/cottontuff.h behind safe ones. The field names and numbers are document 01's.
+//! Cottontuff, the cavity kernel, for Rust: the functions of include/cottontuff.h behind safe ones. The field names and numbers are those of documents 01 and 02.
 //!
 //! `rt staticlib cottontuff` writes target/staticlib/libcottontuff.a; then `rustc -L native=target/staticlib` links a crate that has this file as a module.
 //! Every function takes any lists and answers: a filling, a verdict, or a `Number`. Nothing here panics on an input, and a refusal changes no lent byte.
@@ -10,13 +10,15 @@
 //! let job = Job {
 //!     points: &[0, 0, 0, 6, 0, 0, 0, 6, 0, 1, 1, 5, 1, 1, -5],
 //!     triangles: &[0, 1, 3, 1, 2, 3, 2, 0, 3, 1, 0, 4, 2, 1, 4, 0, 2, 4],
-//!     kept: &[],
 //!     table: &[500000, 400000, 450000, 450000, 460000],
+//!     ..Job::default() // no kept edges, no inner triangles
 //! };
 //! let filling = search(&job)?;
 //! assert_eq!(filling.fours, [[0, 1, 3, 4], [0, 2, 3, 4], [1, 2, 3, 4]]);
 //! assert_eq!(filling.worst, 450000);
 //! assert_eq!(search(&Job { table: &[500000, 0, 0, 450000, 460000], ..job }), Err(Number::NO_FILLING));
+//! // With the triangle 0 1 2 inside as a face there are two, the worse of 400000.
+//! assert_eq!(search(&Job { inner: &[0, 1, 2], ..job })?.worst, 400000);
 //! # Ok::<(), Number>(())
 //! ```
 #![allow(dead_code)]
@@ -30,7 +32,7 @@ pub const PRINTOUT_BYTES: usize = 43695;
 
 /// The C functions as they stand. A list is a pointer and its count of elements; of a list of none the pointer is not read.
 pub mod c {
-    /// `number`: 0, or 2 to 13, and then the rest is 0. `law`: 0, or the lowest law broken. `worst`: where no law is broken.
+    /// `number`: 0, or 2 to 13, 22 or 23, and then the rest is 0. `law`: 0, or the lowest law broken. `worst`: where no law is broken.
     #[repr(C)]
     #[derive(Clone, Copy, Debug, PartialEq, Eq)]
     pub struct Verdict {
@@ -39,7 +41,7 @@ pub mod c {
         pub worst: u32,
     }
 
-    /// `number`: 0, or 2 to 15, and then the rest is 0. `count`: tetrahedra of the filling. `worst`: their least quality.
+    /// `number`: 0, or 2 to 15, 22 or 23, and then the rest is 0. `count`: tetrahedra of the filling. `worst`: their least quality.
     #[repr(C)]
     #[derive(Clone, Copy, Debug, PartialEq, Eq)]
     pub struct Found {
@@ -82,6 +84,18 @@ pub mod c {
             table: *const i32,
             table_len: usize,
         ) -> u32;
+        pub fn cottontuff_check_inner(
+            points: *const i32,
+            points_len: usize,
+            triangles: *const u8,
+            triangles_len: usize,
+            kept: *const u8,
+            kept_len: usize,
+            inner: *const u8,
+            inner_len: usize,
+            table: *const i32,
+            table_len: usize,
+        ) -> u32;
         pub fn cottontuff_judge(
             points: *const i32,
             points_len: usize,
@@ -94,6 +108,20 @@ pub mod c {
             list: *const u8,
             list_len: usize,
         ) -> Verdict;
+        pub fn cottontuff_judge_inner(
+            points: *const i32,
+            points_len: usize,
+            triangles: *const u8,
+            triangles_len: usize,
+            kept: *const u8,
+            kept_len: usize,
+            inner: *const u8,
+            inner_len: usize,
+            table: *const i32,
+            table_len: usize,
+            list: *const u8,
+            list_len: usize,
+        ) -> Verdict;
         pub fn cottontuff_search(
             points: *const i32,
             points_len: usize,
@@ -101,6 +129,20 @@ pub mod c {
             triangles_len: usize,
             kept: *const u8,
             kept_len: usize,
+            table: *const i32,
+            table_len: usize,
+            answer: *mut u8,
+            answer_len: usize,
+        ) -> Found;
+        pub fn cottontuff_search_inner(
+            points: *const i32,
+            points_len: usize,
+            triangles: *const u8,
+            triangles_len: usize,
+            kept: *const u8,
+            kept_len: usize,
+            inner: *const u8,
+            inner_len: usize,
             table: *const i32,
             table_len: usize,
             answer: *mut u8,
@@ -132,20 +174,21 @@ pub mod c {
     }
 }
 
-/// Why something is refused: document 01's number. It displays as the paper's words.
+/// Why something is refused: the papers' number. It displays as their words. Of the numbers that apply the one whose place comes first is given;
+/// the places of a job's numbers are 1; 2 to 10; 22; 23; 11; 12; 13; 14; 15. The order of this type is by size.
 #[derive(Clone, Copy, Debug, PartialEq, Eq, PartialOrd, Ord, Hash)]
 pub struct Number(pub u32);
 
-/// A name and the paper's words for each number.
+/// A name and the papers' words for each number.
 macro_rules! numbers {
     ($($name:ident = $value:literal, $words:literal;)*) => {
         impl Number {
             $(#[doc = $words] pub const $name: Number = Number($value);)*
 
-            /// Every number of document 01, ascending.
+            /// Every number, ascending.
             pub const ALL: &'static [Number] = &[$(Number::$name),*];
 
-            /// The paper's words for this number; for a number that is not the paper's, none.
+            /// The papers' words for this number; for a number that is not theirs, none.
             pub fn words(self) -> Option<&'static str> {
                 match self {
                     $(Number::$name => Some($words),)*
@@ -177,6 +220,8 @@ numbers! {
     BAD_TET = 18, "mesh: tetrahedron flat, or with an absent or repeated point";
     SHARED_FACE = 19, "mesh: an outward face belongs to two tetrahedra";
     NO_SUCH_TET = 20, "open: no such tetrahedron";
+    INNER_COUNT = 22, "over 560 inner triangles, or length no multiple of 3";
+    BAD_INNER = 23, "inner triangle with an absent or repeated point";
     NO_MESH = 31, "open, grow, replace, close: no mesh loaded";
     CAVITY_OPEN = 32, "load, open: a cavity is open";
     NO_CAVITY = 33, "grow, replace, close: none is open";
@@ -208,7 +253,8 @@ fn refused(number: u32) -> Result<(), Number> {
 }
 
 /// A cavity with its qualities. Any lists may stand here; the functions say what is wrong with them.
-#[derive(Clone, Copy, Debug)]
+/// `Job::default()` has none, and is refused with 2.
+#[derive(Clone, Copy, Debug, Default)]
 pub struct Job<'a> {
     /// x, y, z of each point.
     pub points: &'a [i32],
@@ -216,6 +262,8 @@ pub struct Job<'a> {
     pub triangles: &'a [u8],
     /// Two point numbers for each edge to be kept.
     pub kept: &'a [u8],
+    /// Three point numbers for each triangle inside that must be a face, in one direction or the other.
+    pub inner: &'a [u8],
     /// A quality in millionths for each four of points a < b < c < d in lexicographic order; 0 bars a four, -1 leaves it unmeasured.
     pub table: &'a [i32],
 }
@@ -225,7 +273,7 @@ pub struct Job<'a> {
 pub enum Judgement {
     /// It keeps all the laws; its worst quality in millionths.
     Lawful(u32),
-    /// The lowest law that it breaks, 1 to 7.
+    /// The lowest law that it breaks, 1 to 8.
     Breaks(u32),
 }
 
@@ -250,36 +298,40 @@ pub enum Measured {
     Shape { d: f64, s: f64, shape: f64, millionths: u32 },
 }
 
-/// Whether a job can be searched, else 2 to 13.
+/// Whether a job can be searched, else 2 to 13, 22 or 23.
 pub fn check(job: &Job) -> Result<(), Number> {
-    let Job { points, triangles, kept, table } = *job;
+    let Job { points, triangles, kept, inner, table } = *job;
     // SAFETY: each pointer and length are those of a slice, which the function only reads.
     refused(unsafe {
-        c::cottontuff_check(
+        c::cottontuff_check_inner(
             points.as_ptr(),
             points.len(),
             triangles.as_ptr(),
             triangles.len(),
             kept.as_ptr(),
             kept.len(),
+            inner.as_ptr(),
+            inner.len(),
             table.as_ptr(),
             table.len(),
         )
     })
 }
 
-/// Judges a list of four point numbers for each tetrahedron; 2 to 13 where the job is refused.
+/// Judges a list of four point numbers for each tetrahedron; 2 to 13, 22 or 23 where the job is refused.
 pub fn judge(job: &Job, list: &[u8]) -> Result<Judgement, Number> {
-    let Job { points, triangles, kept, table } = *job;
+    let Job { points, triangles, kept, inner, table } = *job;
     // SAFETY: each pointer and length are those of a slice, which the function only reads.
     let verdict = unsafe {
-        c::cottontuff_judge(
+        c::cottontuff_judge_inner(
             points.as_ptr(),
             points.len(),
             triangles.as_ptr(),
             triangles.len(),
             kept.as_ptr(),
             kept.len(),
+            inner.as_ptr(),
+            inner.len(),
             table.as_ptr(),
             table.len(),
             list.as_ptr(),
@@ -291,18 +343,20 @@ pub fn judge(job: &Job, list: &[u8]) -> Result<Judgement, Number> {
 }
 
 /// The lawful filling of greatest worst quality, the first among equals, as 4 · count bytes at the start of `answer`; the bytes behind them keep
-/// their values. 2 to 15 where there is none, and then `answer` is as it was.
+/// their values. 2 to 15, 22 or 23 where there is none, and then `answer` is as it was.
 pub fn search_into(job: &Job, answer: &mut [u8]) -> Result<Found, Number> {
-    let Job { points, triangles, kept, table } = *job;
+    let Job { points, triangles, kept, inner, table } = *job;
     // SAFETY: each pointer and length are those of a slice; the function writes to `answer` alone, which no other slice overlaps.
     let found = unsafe {
-        c::cottontuff_search(
+        c::cottontuff_search_inner(
             points.as_ptr(),
             points.len(),
             triangles.as_ptr(),
             triangles.len(),
             kept.as_ptr(),
             kept.len(),
+            inner.as_ptr(),
+            inner.len(),
             table.as_ptr(),
             table.len(),
             answer.as_mut_ptr(),
@@ -313,7 +367,7 @@ pub fn search_into(job: &Job, answer: &mut [u8]) -> Result<Found, Number> {
     Ok(Found { count: found.count as usize, worst: found.worst })
 }
 
-/// The lawful filling of greatest worst quality, the first among equals; 2 to 13 or 15 where there is none.
+/// The lawful filling of greatest worst quality, the first among equals; 2 to 13, 15, 22 or 23 where there is none.
 pub fn search(job: &Job) -> Result<Filling, Number> {
     let mut answer = [0; ANSWER_BYTES];
     let found = search_into(job, &mut answer)?;
@@ -466,7 +520,7 @@ mod tests {
     const TET_TRIANGLES: [u8; 12] = [0, 2, 1, 0, 1, 3, 0, 3, 2, 1, 2, 3];
 
     fn b<'a>(kept: &'a [u8], table: &'a [i32]) -> Job<'a> {
-        Job { points: &B_POINTS, triangles: &B_TRIANGLES, kept, table }
+        Job { points: &B_POINTS, triangles: &B_TRIANGLES, kept, inner: &[], table }
     }
 
     fn filled(fours: &[[u8; 4]], worst: u32) -> Result<Filling, Number> {
@@ -478,7 +532,7 @@ mod tests {
         let points = [0, 0, 0, 1, 0, 0, 0, 1, 0, 0, 0, 1];
         let shape = 432.0 / 729.0;
         assert_eq!(measure(&points), Ok(Measured::Shape { d: 1.0, s: 9.0, shape, millionths: 592592 }));
-        let job = Job { points: &points, triangles: &TET_TRIANGLES, kept: &[], table: &[592592] };
+        let job = Job { points: &points, triangles: &TET_TRIANGLES, table: &[592592], ..Job::default() };
         assert_eq!(search(&job), filled(&[[0, 1, 2, 3]], 592592));
     }
 
@@ -520,7 +574,7 @@ mod tests {
     #[test]
     fn an_inner_point_is_met_by_four() {
         let points = [0, 0, 0, 4, 0, 0, 0, 4, 0, 0, 0, 4, 1, 1, 1];
-        let job = Job { points: &points, triangles: &TET_TRIANGLES, kept: &[], table: &[1; 5] };
+        let job = Job { points: &points, triangles: &TET_TRIANGLES, table: &[1; 5], ..Job::default() };
         assert_eq!(search(&job), filled(&[[0, 1, 2, 4], [0, 1, 3, 4], [0, 2, 3, 4], [1, 2, 3, 4]], 1));
         assert_eq!(judge(&job, &[0, 1, 2, 3]), Ok(Judgement::Breaks(3)));
     }
@@ -535,6 +589,50 @@ mod tests {
         assert_eq!(judge(&b(&[3, 4], &B_TABLE), &[0, 1, 2, 3, 0, 1, 2, 4]), Ok(Judgement::Breaks(7)));
     }
 
+    fn with_inner(inner: &[u8]) -> Job<'_> {
+        Job { inner, ..b(&[], &B_TABLE) }
+    }
+
+    #[test]
+    fn inner_triangles_are_kept() {
+        let two = [[0, 1, 2, 3], [0, 1, 2, 4]];
+        // Either way round, twice, and with a boundary triangle, which is a face in any case.
+        for inner in [&[0, 1, 2][..], &[2, 1, 0], &[0, 1, 2, 1, 0, 2], &[0, 1, 3, 0, 1, 2]] {
+            assert_eq!(search(&with_inner(inner)), filled(&two, 400000));
+        }
+        assert_eq!(search(&with_inner(&[3, 1, 0])), search(&with_inner(&[])));
+        assert_eq!(search(&with_inner(&[0, 1, 2, 0, 3, 4])), Err(Number::NO_FILLING));
+        let three = [0, 1, 3, 4, 0, 2, 3, 4, 1, 2, 3, 4];
+        assert_eq!(judge(&with_inner(&[]), &three), Ok(Judgement::Lawful(450000)));
+        assert_eq!(judge(&with_inner(&[2, 0, 1]), &three), Ok(Judgement::Breaks(8)));
+        assert_eq!(judge(&with_inner(&[2, 0, 1]), &[0, 1, 2, 3, 0, 1, 2, 4]), Ok(Judgement::Lawful(400000)));
+        // Law 8 comes last.
+        assert_eq!(judge(&with_inner(&[0, 1, 2]), &three[..8]), Ok(Judgement::Breaks(4)));
+        assert_eq!(
+            judge(&Job { kept: &[0, 3, 3, 4], ..with_inner(&[0, 3, 4]) }, &[0, 1, 2, 3, 0, 1, 2, 4]),
+            Ok(Judgement::Breaks(7))
+        );
+    }
+
+    #[test]
+    fn inner_triangles_are_refused_between_10_and_11() {
+        assert_eq!(check(&with_inner(&[0, 1, 2].repeat(560))), Ok(()));
+        assert_eq!(check(&with_inner(&[0, 1, 2].repeat(561))), Err(Number::INNER_COUNT));
+        // A length that is no multiple of 3 is 22, also where the odd bytes would name an absent point.
+        for inner in [&[0, 1][..], &[0, 1, 2, 9], &[9, 9]] {
+            assert_eq!(check(&with_inner(inner)), Err(Number::INNER_COUNT));
+            assert_eq!(search(&with_inner(inner)), Err(Number::INNER_COUNT));
+        }
+        for inner in [&[0, 1, 5][..], &[0, 1, 1], &[0, 1, 2, 255, 0, 1]] {
+            assert_eq!(check(&with_inner(inner)), Err(Number::BAD_INNER));
+            assert_eq!(judge(&with_inner(inner), &[]), Err(Number::BAD_INNER));
+        }
+        assert_eq!(check(&Job { kept: &[3, 3], ..with_inner(&[0]) }), Err(Number::BAD_KEPT));
+        assert_eq!(check(&Job { table: &[], ..with_inner(&[0]) }), Err(Number::INNER_COUNT));
+        assert_eq!(check(&Job { table: &[], ..with_inner(&[0, 1, 5]) }), Err(Number::BAD_INNER));
+        assert_eq!(search_into(&with_inner(&[0, 1, 5]), &mut []), Err(Number::BAD_INNER));
+    }
+
     // Sixteen points on a curve; the boundary is that of the first four.
     fn on_a_curve(count: i32) -> Vec<i32> {
         (0..count).flat_map(|i| [i, i * i, i * i * i]).collect()
@@ -544,7 +642,7 @@ mod tests {
     fn limits_of_points_and_coordinates() {
         let table = [1; 1820];
         let points = on_a_curve(16);
-        let job = Job { points: &points, triangles: &TET_TRIANGLES, kept: &[], table: &table };
+        let job = Job { points: &points, triangles: &TET_TRIANGLES, table: &table, ..Job::default() };
         assert_eq!(check(&job), Ok(()));
         let points = on_a_curve(17);
         assert_eq!(check(&Job { points: &points, ..job }), Err(Number::POINT_COUNT));
@@ -557,7 +655,7 @@ mod tests {
 
     #[test]
     fn empty_lists_are_refused() {
-        let job = Job { points: &[], triangles: &[], kept: &[], table: &[] };
+        let job = Job::default();
         assert_eq!(check(&job), Err(Number::POINT_COUNT));
         assert_eq!(judge(&job, &[]), Err(Number::POINT_COUNT));
         assert_eq!(search(&job), Err(Number::POINT_COUNT));
@@ -678,6 +776,6 @@ mod tests {
         assert_eq!(Number::NO_FILLING.to_string(), "15: no lawful filling exists");
         assert_eq!(Number(99).to_string(), "99");
         let all: Vec<u32> = Number::ALL.iter().map(|number| number.0).collect();
-        assert_eq!(all, (1..=20).chain(31..=38).collect::<Vec<u32>>());
+        assert_eq!(all, (1..=20).chain(22..=23).chain(31..=38).collect::<Vec<u32>>());
     }
 }

@@ -3,6 +3,7 @@
 pub mod measured;
 
 ghost use mathlib.Core.Path.{_≡_};
+ghost use mathlib.Core.List.{[]};
 ghost use Rattle.laws.specs.Check.{job-refusal};
 ghost use Rattle.laws.specs.Lists.{job-lists};
 ghost use Rattle.judge.specs.Judge.{Judge-says};
@@ -29,7 +30,51 @@ use measuring::fill::fill_table;
 use search::search::Found;
 use search::search::search;
 
-// 0 for a job that can be searched, else 2 to 13.
+// Jobs with inner triangles. 0 for a job that can be searched, else 2 to 13, 22 or 23.
+#[no_mangle]
+pub extern "C" fn cottontuff_check_inner(
+    points: &[i32],
+    triangles: &[u8],
+    kept: &[u8],
+    inner: &[u8],
+    table: &[i32],
+) -> u32
+    ensures { λ r. ⌜ r ≡ job-refusal (job-lists (now (points .entry)) (now (triangles .entry)) (now (kept .entry)) (now (inner .entry)) (now (table .entry))) ⌝ }
+{
+    check_job(points, triangles, kept, inner, table)
+}
+
+// The verdict on a list of fours: a refusal, the lowest law broken, or the worst quality.
+#[no_mangle]
+pub extern "C" fn cottontuff_judge_inner(
+    points: &[i32],
+    triangles: &[u8],
+    kept: &[u8],
+    inner: &[u8],
+    table: &[i32],
+    list: &[u8],
+) -> Verdict
+    ensures { λ r. ⌜ Judge-says (job-lists (now (points .entry)) (now (triangles .entry)) (now (kept .entry)) (now (inner .entry)) (now (table .entry))) (now (list .entry)) r ⌝ }
+{
+    judge(points, triangles, kept, inner, table, list)
+}
+
+// The best filling, its bytes at the start of the answer; or a refusal, and the answer as it was.
+#[no_mangle]
+pub extern "C" fn cottontuff_search_inner(
+    points: &[i32],
+    triangles: &[u8],
+    kept: &[u8],
+    inner: &[u8],
+    table: &[i32],
+    answer: &mut [u8],
+) -> Found
+    ensures { λ r. ⌜ Search-says (job-lists (now (points .entry)) (now (triangles .entry)) (now (kept .entry)) (now (inner .entry)) (now (table .entry))) r (now (answer .entry)) (now (answer .exit)) ⌝ }
+{
+    search(points, triangles, kept, inner, table, answer)
+}
+
+// The same three for a job without inner triangles.
 #[no_mangle]
 pub extern "C" fn cottontuff_check(
     points: &[i32],
@@ -37,12 +82,11 @@ pub extern "C" fn cottontuff_check(
     kept: &[u8],
     table: &[i32],
 ) -> u32
-    ensures { λ r. ⌜ r ≡ job-refusal (job-lists (now (points .entry)) (now (triangles .entry)) (now (kept .entry)) (now (table .entry))) ⌝ }
+    ensures { λ r. ⌜ r ≡ job-refusal (job-lists (now (points .entry)) (now (triangles .entry)) (now (kept .entry)) [] (now (table .entry))) ⌝ }
 {
-    check_job(points, triangles, kept, table)
+    cottontuff_check_inner(points, triangles, kept, &[], table)
 }
 
-// The verdict on a list of fours: a refusal, the lowest law broken, or the worst quality.
 #[no_mangle]
 pub extern "C" fn cottontuff_judge(
     points: &[i32],
@@ -51,12 +95,11 @@ pub extern "C" fn cottontuff_judge(
     table: &[i32],
     list: &[u8],
 ) -> Verdict
-    ensures { λ r. ⌜ Judge-says (job-lists (now (points .entry)) (now (triangles .entry)) (now (kept .entry)) (now (table .entry))) (now (list .entry)) r ⌝ }
+    ensures { λ r. ⌜ Judge-says (job-lists (now (points .entry)) (now (triangles .entry)) (now (kept .entry)) [] (now (table .entry))) (now (list .entry)) r ⌝ }
 {
-    judge(points, triangles, kept, table, list)
+    cottontuff_judge_inner(points, triangles, kept, &[], table, list)
 }
 
-// The best filling, its bytes at the start of the answer; or a refusal, and the answer as it was.
 #[no_mangle]
 pub extern "C" fn cottontuff_search(
     points: &[i32],
@@ -65,9 +108,9 @@ pub extern "C" fn cottontuff_search(
     table: &[i32],
     answer: &mut [u8],
 ) -> Found
-    ensures { λ r. ⌜ Search-says (job-lists (now (points .entry)) (now (triangles .entry)) (now (kept .entry)) (now (table .entry))) r (now (answer .entry)) (now (answer .exit)) ⌝ }
+    ensures { λ r. ⌜ Search-says (job-lists (now (points .entry)) (now (triangles .entry)) (now (kept .entry)) [] (now (table .entry))) r (now (answer .entry)) (now (answer .exit)) ⌝ }
 {
-    search(points, triangles, kept, table, answer)
+    cottontuff_search_inner(points, triangles, kept, &[], table, answer)
 }
 
 // The measure of a tetrahedron by its twelve coordinates: D, S, the shape number and its millionths; or 3, then 16.
