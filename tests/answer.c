@@ -1,5 +1,5 @@
 // Answers job texts through the library and compares with the expected printouts.
-//   answer [-p] JOB.txt ..    each JOB.txt has JOB.out beside it; jobs whose text is not of the form are passed over and counted
+//   answer [-p] JOB.txt ..    each JOB.txt has JOB.out beside it; those without, and jobs whose text is not of the form, are passed over and counted
 // Ends in 'N passed, M failed'; with -p it prints the printouts and nothing else.
 #include "job.h"
 
@@ -50,16 +50,17 @@ int main(int argc, char **argv) {
     for (int i = 1 + print; i < argc; i++) {
         char name[4096];
         snprintf(name, sizeof name, "%.*s.out", (int)strlen(argv[i]) - 4, argv[i]);
-        slurp(name, expected);
-        if (strcmp(expected, "R,1\n") == 0 || !read_job(argv[i])) {
+        expected[0] = 0;
+        int stored = slurp(name, expected) > 0;
+        if (!(stored || print) || strcmp(expected, "R,1\n") == 0 || !read_job(argv[i])) {
             passed_over++;
             continue;
         }
         uint8_t answer[ANSWER];
         struct timespec t0, t1;
         clock_gettime(CLOCK_MONOTONIC, &t0);
-        cottontuff_found r = cottontuff_search(j.points, 3 * (size_t)j.np, j.triangles, 3 * (size_t)j.nt, j.kept, 2 * (size_t)j.ne, j.table,
-                                    j.entries, answer, ANSWER);
+        cottontuff_found r = cottontuff_search_inner(j.points, 3 * (size_t)j.np, j.triangles, 3 * (size_t)j.nt, j.kept, 2 * (size_t)j.ne, j.inner,
+                                                     3 * (size_t)j.nk, j.table, j.entries, answer, ANSWER);
         clock_gettime(CLOCK_MONOTONIC, &t1);
         double s = (double)(t1.tv_sec - t0.tv_sec) + 1e-9 * (double)(t1.tv_nsec - t0.tv_nsec);
         if (s > slowest) slowest = s, slowest_name = argv[i];

@@ -5,12 +5,12 @@
 #include <stdlib.h>
 #include <string.h>
 
-enum { POINTS = 8192, TRIANGLES = 8192, EDGES = 8192, TEXT = 1 << 17, ANSWER = COTTONTUFF_ANSWER_BYTES };
+enum { POINTS = 8192, TRIANGLES = 8192, EDGES = 8192, INNER = 8192, TEXT = 1 << 17, ANSWER = COTTONTUFF_ANSWER_BYTES };
 
 typedef struct {
-    int np, nt, ne;
+    int np, nt, ne, nk;
     int32_t points[3 * POINTS];
-    uint8_t triangles[3 * TRIANGLES], kept[2 * EDGES];
+    uint8_t triangles[3 * TRIANGLES], kept[2 * EDGES], inner[3 * INNER];
     int32_t quality[16][16][16][16];
     int32_t table[1820];
     size_t entries;
@@ -46,6 +46,10 @@ static int read_job(const char *name) {
             if (a < 0 || b < 0 || a > 255 || b > 255) return 0;
             uint8_t *e = j.kept + 2 * j.ne++;
             e[0] = (uint8_t)a, e[1] = (uint8_t)b;
+        } else if (sscanf(line, "K,%d,%d,%d%n", &a, &b, &c, &end) == 3 && !line[end] && j.nk < INNER) {
+            if (a < 0 || b < 0 || c < 0 || a > 255 || b > 255 || c > 255) return 0;
+            uint8_t *k = j.inner + 3 * j.nk++;
+            k[0] = (uint8_t)a, k[1] = (uint8_t)b, k[2] = (uint8_t)c;
         } else if (sscanf(line, "Q,%d,%d,%d,%d,%d%n", &a, &b, &c, &d, &v, &end) == 5 && !line[end]) {
             if (a < 0 || b <= a || c <= b || d <= c || d >= j.np || d >= 16 || j.quality[a][b][c][d] != -1) return 0;
             j.quality[a][b][c][d] = v;

@@ -3,7 +3,8 @@
 
     tests/law_cases.py [JOBS [OUT]]
 
-JOBS (../shared/jobs) has small/NAME.txt, a job; small/NAME.out, its printout; judge/cases.txt, lines NAME;LIST;RESULT.
+JOBS (../shared/jobs) has small/NAME.txt, a job; small/NAME.out, its printout; judge/cases.txt, lines NAME;LIST;RESULT; and the same of jobs with inner triangles in
+slip-01/, with the lists in slip-01/judge.txt.
 OUT (crates/law_cases/stdin) has the form that crates/law_cases/src/main.rt describes.
 """
 import itertools
@@ -12,8 +13,11 @@ from pathlib import Path
 
 ROOT = Path(__file__).resolve().parent.parent
 
-# What the program has room for, as crates/law_cases/src/answer.rt: numbers of points, triangles, kept edges, table.
-ROOM = (2048, 4096, 1024, 2048)
+# What the program has room for, as crates/law_cases/src/answer.rt: numbers of points, triangles, kept edges, inner triangles, table.
+ROOM = (2048, 4096, 1024, 4096, 2048)
+
+# The longest line of a job with inner triangles: longer ones are searched by tests/jobs, and would fill the program's input.
+LONGEST = 1000
 
 # Laws 5, 6 and 7, which the stored lists do not reach.
 FURTHER_LISTS = [
@@ -41,8 +45,8 @@ def fours(count):
 
 
 def read_job(text):
-    """Points, triangles, kept edges and table of a text that is of the form."""
-    lists = {"P": [], "T": [], "E": []}
+    """Points, triangles, kept edges, inner triangles and table of a text that is of the form."""
+    lists = {"P": [], "T": [], "E": [], "K": []}
     qualities = {}
     for line in text.splitlines():
         kind, *fields = line.split(",")
@@ -56,7 +60,7 @@ def read_job(text):
         if four in qualities:
             raise LeftOut("a second Q for a four")
         qualities[four] = numbers[4]
-    return lists["P"], lists["T"], lists["E"], table_of(len(lists["P"]) // 3, qualities)
+    return lists["P"], lists["T"], lists["E"], lists["K"], table_of(len(lists["P"]) // 3, qualities)
 
 
 def table_of(count, qualities):
@@ -98,24 +102,22 @@ def in_runs(numbers):
 def job_line(name, job, number):
     if any(len(numbers) > room for numbers, room in zip(job, ROOM)):
         raise LeftOut("longer than the program has room for")
-    points, triangles, kept, table = job
-    return f"J;{name};{plain(points)};{plain(triangles)};{plain(kept)};{in_runs(table)};{number}"
+    points, triangles, kept, inner, table = job
+    return f"J;{name};{plain(points)};{plain(triangles)};{plain(kept)};{plain(inner)};{in_runs(table)};{number}"
 
 
-def stored_lists(jobs):
-    """The lists of judge/cases.txt and FURTHER_LISTS, by job."""
+def stored_lists(path, further):
+    """The lists of the file and the further ones, by job."""
     lists = {}
-    for line in (jobs / "judge" / "cases.txt").read_text().splitlines():
+    for line in path.read_text().splitlines() + [";".join(case) for case in further]:
         name, numbers, result = line.split(";")
-        lists.setdefault(name, []).append((numbers, result))
-    for name, numbers, result in FURTHER_LISTS:
         lists.setdefault(name, []).append((numbers, result))
     return lists
 
 
 def lines_of(name, text, printout, lists):
-    """The job, its lists, and the list that the printout settles: the filling, or for a refused job any."""
-    number = expected_number(printout)
+    """The job, its lists, and the list that the printout settles: the filling, or for a refused job any. A job without a printout passes: its lists are judged."""
+    number = expected_number(printout) if printout else 0
     settled = [("", f"R,{number}")] if number > 0 else []
     if printout.startswith("F"):
         settled = [filling(printout)]
@@ -125,43 +127,66 @@ def lines_of(name, text, printout, lists):
 
 def edited_lines(text):
     """Jobs that no text states, or that small/ has not: one edit each of a lawful job."""
-    points, triangles, kept, table = read_job(text)
+    points, triangles, kept, inner, table = read_job(text)
     edits = {
-        "points-less-one": ((points[:-1], triangles, kept, table), 2),
-        "points-least": ((points[:-1] + [-(2**31)], triangles, kept, table), 3),
-        "points-greatest": ((points[:-1] + [2**31 - 1], triangles, kept, table), 3),
-        "triangles-less-one": ((points, triangles[:-1], kept, table), 5),
-        "triangle-255": ((points, triangles[:-1] + [255], kept, table), 6),
-        "triangle-twice": ((points, triangles + triangles[:3], kept, table), 7),
-        "triangle-turned": ((points, triangles + triangles[1:3] + triangles[:1], kept, table), 7),
-        "triangle-reversed": ((points, triangles + triangles[2::-1], kept, table), 7),
-        "triangle-less": ((points, triangles[3:], kept, table), 8),
-        "kept-odd": ((points, triangles, [0], table), 9),
-        "kept-121": ((points, triangles, [0, 1] * 121, table), 9),
-        "kept-120": ((points, triangles, [0, 1] * 120, table), 0),
-        "kept-255": ((points, triangles, [0, 255], table), 10),
-        "table-empty": ((points, triangles, kept, []), 11),
-        "table-less-one": ((points, triangles, kept, table[:-1]), 11),
-        "table-one-more": ((points, triangles, kept, table + [1]), 11),
-        "entry-below": ((points, triangles, kept, table[:-1] + [-2]), 12),
-        "entry-least": ((points, triangles, kept, table[:-1] + [-(2**31)]), 12),
-        "entry-above": ((points, triangles, kept, table[:-1] + [1000001]), 12),
+        "points-less-one": ((points[:-1], triangles, kept, inner, table), 2),
+        "points-least": ((points[:-1] + [-(2**31)], triangles, kept, inner, table), 3),
+        "points-greatest": ((points[:-1] + [2**31 - 1], triangles, kept, inner, table), 3),
+        "triangles-less-one": ((points, triangles[:-1], kept, inner, table), 5),
+        "triangle-255": ((points, triangles[:-1] + [255], kept, inner, table), 6),
+        "triangle-twice": ((points, triangles + triangles[:3], kept, inner, table), 7),
+        "triangle-turned": ((points, triangles + triangles[1:3] + triangles[:1], kept, inner, table), 7),
+        "triangle-reversed": ((points, triangles + triangles[2::-1], kept, inner, table), 7),
+        "triangle-less": ((points, triangles[3:], kept, inner, table), 8),
+        "kept-odd": ((points, triangles, [0], inner, table), 9),
+        "kept-121": ((points, triangles, [0, 1] * 121, inner, table), 9),
+        "kept-120": ((points, triangles, [0, 1] * 120, inner, table), 0),
+        "kept-255": ((points, triangles, [0, 255], inner, table), 10),
+        "inner-one": ((points, triangles, kept, [0], table), 22),
+        "inner-less-one": ((points, triangles, kept, [0, 1, 2, 0, 255], []), 22),
+        "inner-561": ((points, triangles, kept, [0, 1, 2] * 561, table), 22),
+        "inner-560": ((points, triangles, kept, [0, 1, 2] * 560, table), 0),
+        "inner-255": ((points, triangles, kept, [0, 1, 255], []), 23),
+        "inner-twice": ((points, triangles, kept, [0, 1, 2, 3, 4, 3], table), 23),
+        "kept-odd-inner-one": ((points, triangles, [0], [0], table), 9),
+        "kept-255-inner-one": ((points, triangles, [0, 255], [0], table), 10),
+        "table-empty": ((points, triangles, kept, inner, []), 11),
+        "table-less-one": ((points, triangles, kept, inner, table[:-1]), 11),
+        "table-one-more": ((points, triangles, kept, inner, table + [1]), 11),
+        "entry-below": ((points, triangles, kept, inner, table[:-1] + [-2]), 12),
+        "entry-least": ((points, triangles, kept, inner, table[:-1] + [-(2**31)]), 12),
+        "entry-above": ((points, triangles, kept, inner, table[:-1] + [1000001]), 12),
     }
     return [job_line(name, job, number) for name, (job, number) in edits.items()]
 
 
-def main(jobs, out):
-    lists = stored_lists(jobs)
+def folder_lines(folder, lists, longest, left_out):
+    """The lines of the folder's jobs; their lists are taken out of `lists`."""
     lines = []
-    left_out = {}
-    for path in sorted((jobs / "small").glob("*.txt")):
+    for path in sorted(folder.glob("*.txt")):
+        out = path.with_suffix(".out")
+        if not out.exists() and path.stem not in lists:
+            continue
         try:
             # Texts of any bytes: what is no ASCII is refused with 1.
             text = path.read_bytes().decode("latin-1")
-            lines += lines_of(path.stem, text, path.with_suffix(".out").read_text(), lists.get(path.stem, []))
+            found = lines_of(path.stem, text, out.read_text() if out.exists() else "", lists.get(path.stem, []))
+            if len(found[0]) > longest and path.stem not in lists:
+                raise LeftOut("a longer line than LONGEST")
+            lines += found
             lists.pop(path.stem, None)
         except LeftOut as reason:
             left_out.setdefault(str(reason), []).append(path.stem)
+    return lines
+
+
+def main(jobs, out):
+    left_out = {}
+    lists = stored_lists(jobs / "judge" / "cases.txt", FURTHER_LISTS)
+    lines = folder_lines(jobs / "small", lists, 1 << 20, left_out)
+    inner_lists = stored_lists(jobs / "slip-01" / "judge.txt", [])
+    lines += folder_lines(jobs / "slip-01", inner_lists, LONGEST, left_out)
+    lists.update(inner_lists)
     lines += edited_lines((jobs / "small" / "case-B.txt").read_text())
     out.write_text("".join(line + "\n" for line in lines))
     print(f"{sum(line[0] == 'J' for line in lines)} jobs, {sum(line[0] == 'L' for line in lines)} lists")

@@ -5,19 +5,20 @@ use cottontuff::{c, Job};
 use std::ptr::null;
 
 /// A room for each list of a job.
-pub struct Rooms([Room; 4]);
+pub struct Rooms([Room; 5]);
 
 impl Rooms {
     pub fn new() -> Rooms {
-        Rooms([0; 4].map(|_| Room::new(16_384)))
+        Rooms([0; 5].map(|_| Room::new(16_384)))
     }
 
     pub fn lend(&mut self, made: &Made) -> Job<'_> {
-        let [points, triangles, kept, table] = &mut self.0;
+        let [points, triangles, kept, inner, table] = &mut self.0;
         Job {
             points: points.lend(&made.points),
             triangles: triangles.lend(&made.triangles),
             kept: kept.lend(&made.kept),
+            inner: inner.lend(&made.inner),
             table: table.lend(&made.table),
         }
     }
@@ -32,31 +33,49 @@ fn start<T>(list: &[T]) -> *const T {
     }
 }
 
+/// By the function of four lists where there are no inner triangles: the safe functions call the one of five.
 pub fn check(job: &Job) -> u32 {
-    let Job { points, triangles, kept, table } = *job;
-    let (p, t, k, q) = (start(points), start(triangles), start(kept), start(table));
+    let Job { points, triangles, kept, inner, table } = *job;
+    let (p, t, k, i, q) = (start(points), start(triangles), start(kept), start(inner), start(table));
+    let (np, nt, nk, ni, nq) = (points.len(), triangles.len(), kept.len(), inner.len(), table.len());
     // SAFETY: each pointer and length are those of a list, which the function only reads.
-    unsafe { c::cottontuff_check(p, points.len(), t, triangles.len(), k, kept.len(), q, table.len()) }
+    unsafe {
+        match inner {
+            [] => c::cottontuff_check(p, np, t, nt, k, nk, q, nq),
+            _ => c::cottontuff_check_inner(p, np, t, nt, k, nk, i, ni, q, nq),
+        }
+    }
 }
 
-/// Number, law and worst quality.
+/// Number, law and worst quality; by which function as in `check`.
 pub fn judge(job: &Job, list: &[u8]) -> [u32; 3] {
-    let Job { points, triangles, kept, table } = *job;
-    let (p, t, k, q, l) = (start(points), start(triangles), start(kept), start(table), start(list));
+    let Job { points, triangles, kept, inner, table } = *job;
+    let (p, t, k, i, q) = (start(points), start(triangles), start(kept), start(inner), start(table));
+    let (np, nt, nk, ni, nq) = (points.len(), triangles.len(), kept.len(), inner.len(), table.len());
+    let (l, nl) = (start(list), list.len());
     // SAFETY: each pointer and length are those of a list, which the function only reads.
     let v = unsafe {
-        c::cottontuff_judge(p, points.len(), t, triangles.len(), k, kept.len(), q, table.len(), l, list.len())
+        match inner {
+            [] => c::cottontuff_judge(p, np, t, nt, k, nk, q, nq, l, nl),
+            _ => c::cottontuff_judge_inner(p, np, t, nt, k, nk, i, ni, q, nq, l, nl),
+        }
     };
     [v.number, v.law, v.worst]
 }
 
-/// Number, count and worst quality.
+/// Number, count and worst quality; by which function as in `check`.
 pub fn search(job: &Job, answer: &mut [u8]) -> [u32; 3] {
-    let Job { points, triangles, kept, table } = *job;
-    let (p, t, k, q) = (start(points), start(triangles), start(kept), start(table));
-    let (a, len) = (start(answer).cast_mut(), answer.len());
+    let Job { points, triangles, kept, inner, table } = *job;
+    let (p, t, k, i, q) = (start(points), start(triangles), start(kept), start(inner), start(table));
+    let (np, nt, nk, ni, nq) = (points.len(), triangles.len(), kept.len(), inner.len(), table.len());
+    let (a, na) = (start(answer).cast_mut(), answer.len());
     // SAFETY: each pointer and length are those of a list; the function writes to the answer alone, which no other list overlaps.
-    let f = unsafe { c::cottontuff_search(p, points.len(), t, triangles.len(), k, kept.len(), q, table.len(), a, len) };
+    let f = unsafe {
+        match inner {
+            [] => c::cottontuff_search(p, np, t, nt, k, nk, q, nq, a, na),
+            _ => c::cottontuff_search_inner(p, np, t, nt, k, nk, i, ni, q, nq, a, na),
+        }
+    };
     [f.number, f.count, f.worst]
 }
 

@@ -13,6 +13,7 @@ pub struct Made {
     pub points: Vec<i32>,
     pub triangles: Vec<u8>,
     pub kept: Vec<u8>,
+    pub inner: Vec<u8>,
     pub table: Vec<i32>,
     pub filling: Vec<Four>,
 }
@@ -27,12 +28,14 @@ impl Made {
             points: self.points.clone(),
             triangles: numbers(&self.triangles),
             kept: numbers(&self.kept),
+            inner: numbers(&self.inner),
             table: self.table.clone(),
         }
     }
 
     pub fn job(&self) -> Job<'_> {
-        Job { points: &self.points, triangles: &self.triangles, kept: &self.kept, table: &self.table }
+        let Made { points, triangles, kept, inner, table, .. } = self;
+        Job { points, triangles, kept, inner, table }
     }
 
     pub fn told(&self) -> String {
@@ -47,6 +50,7 @@ impl Made {
         self.points.chunks(3).for_each(|p| line("P", &p.iter().map(i32::to_string).collect::<Vec<_>>()));
         self.triangles.chunks(3).for_each(|t| line("T", &written(t)));
         self.kept.chunks(2).for_each(|e| line("E", &written(e)));
+        self.inner.chunks(3).for_each(|t| line("K", &written(t)));
         for (four, entry) in fours((self.points.len() / 3).min(17)).iter().zip(&self.table).filter(|(_, e)| **e != -1) {
             line("Q", &[&four.map(|p| p.to_string())[..], &[entry.to_string()]].concat());
         }
@@ -156,6 +160,29 @@ fn kept(random: &mut Random, count: usize, filling: &[Four]) -> Vec<u8> {
     kept
 }
 
+/// Inner triangles, each in either direction: faces of the filling mostly, boundary triangles, any three points.
+fn inner(random: &mut Random, count: usize, triangles: &[Triangle], filling: &[Four]) -> Vec<u8> {
+    let mut inner = Vec::new();
+    for _ in 0..random.any(&[0, 0, 0, 0, 1, 1, 2, 5]) {
+        let mut three = match (random.below(8), filling, triangles) {
+            (0, _, [_, ..]) => random.any(triangles),
+            (1..=6, [_, ..], _) => {
+                let [a, b, c, d] = random.any(filling);
+                random.any(&[[a, b, c], [a, b, d], [a, c, d], [b, c, d]])
+            }
+            _ => {
+                let [a, b, c, _] = random.any(&fours(count));
+                [a, b, c]
+            }
+        };
+        if random.one_in(2) {
+            three.reverse();
+        }
+        inner.push(three);
+    }
+    bytes(random, &inner)
+}
+
 /// Leaves out the points that no four meets, and numbers the rest anew.
 fn without_unused(points: Vec<i32>, filling: Vec<Four>) -> (Vec<i32>, Vec<Four>) {
     let used: Vec<usize> = filling.iter().flatten().copied().collect::<BTreeSet<_>>().into_iter().collect();
@@ -192,7 +219,7 @@ fn walled(random: &mut Random) -> Made {
         filling.sort();
     }
     let (triangles, table) = (bytes(random, &triangles), table(random, &points));
-    Made { points, triangles, kept: Vec::new(), table, filling }
+    Made { points, triangles, table, filling, ..Made::default() }
 }
 
 /// A job of at most so many points that is not refused before 13, but where chance wills it.
@@ -215,9 +242,10 @@ pub fn sound(random: &mut Random, count: usize) -> Made {
     if random.one_in(40) {
         triangles = triangles.into_iter().map(reverse).collect();
     }
-    let kept = kept(random, points.len() / 3, &filling);
+    let count = points.len() / 3;
+    let (kept, inner) = (kept(random, count, &filling), inner(random, count, &triangles, &filling));
     let (triangles, table) = (bytes(random, &triangles), table(random, &points));
-    Made { points, triangles, kept, table, filling }
+    Made { points, triangles, kept, inner, table, filling }
 }
 
 /// Coordinates and entries at and beyond the limits.
@@ -277,10 +305,11 @@ fn damage_triangles(random: &mut Random, made: &mut Made) {
 /// Lists longer than any that is accepted, with what they had at their start.
 fn lengthen(random: &mut Random, made: &mut Made) {
     let long = random.any(&[3 * 17, 240, 241, 242, 3 * 560, 3 * 561, 1821, 7281, 60_000]);
-    match random.below(4) {
+    match random.below(5) {
         0 => made.points.extend((0..long as i32).map(|i| i % 9_973)),
         1 => made.triangles.extend((0..long).map(|i| i as u8 % 16)),
         2 => made.kept.extend((0..long).map(|i| (i % 4) as u8)),
+        3 => made.inner.extend((0..long).map(|i| (i % 3) as u8)),
         _ => made.table.extend((0..long).map(|_| 1)),
     }
 }
@@ -288,7 +317,7 @@ fn lengthen(random: &mut Random, made: &mut Made) {
 /// One to three changes, most of them faults.
 pub fn damaged(random: &mut Random, mut made: Made) -> Made {
     for _ in 0..1 + random.below(3) {
-        match random.below(12) {
+        match random.below(14) {
             0..=2 => damage_points(random, &mut made),
             3..=5 => damage_triangles(random, &mut made),
             6 => made.kept.extend([random.below(9) as u8, random.below(9) as u8]),
@@ -299,6 +328,8 @@ pub fn damaged(random: &mut Random, mut made: Made) -> Made {
                 made.table[at] = random.any(&EDGES);
             }
             10 if random.one_in(2) => lengthen(random, &mut made),
+            11 => damage_list(random, &mut made.inner, |r| r.any(&[0, 1, 2, 3, 16, 255])),
+            12 => made.inner.extend([0; 3].map(|_| random.below(9) as u8)),
             _ => made.table.iter_mut().take(1).for_each(|entry| *entry = -1),
         }
     }
@@ -327,5 +358,5 @@ pub fn many_triangles(random: &mut Random) -> Made {
     }
     let triangles = bytes(random, &sides.into_iter().collect::<Vec<_>>());
     let table = table(random, &points);
-    Made { points, triangles, kept: Vec::new(), table, filling: Vec::new() }
+    Made { points, triangles, table, ..Made::default() }
 }

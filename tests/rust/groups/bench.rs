@@ -79,7 +79,7 @@ fn best(tally: &mut Tally, bench: &Bench) -> Best {
     }
     tally.count("cavity searched");
     let triangles: Vec<u8> = lists.triangles.iter().map(|p| *p as u8).collect();
-    let job = cottontuff::Job { points: &lists.points, triangles: &triangles, kept: &[], table: &lists.table };
+    let job = cottontuff::Job { points: &lists.points, triangles: &triangles, kept: &[], inner: &[], table: &lists.table };
     let filling = cottontuff::search(&job).ok()?;
     let fours: Vec<Four> = filling.fours.iter().map(|f| f.map(usize::from)).collect();
     Some((filling.worst as i32, fours))

@@ -6,7 +6,7 @@ use crate::random::Random;
 use crate::reference::job;
 use crate::tally::{refusal, Tally};
 
-pub const GROUP: Group = Group { name: "check", run, wanted: |_| (refusals(2..=13, &["sound"]), 50) };
+pub const GROUP: Group = Group { name: "check", run, wanted: |_| (refusals((2..=13).chain([22, 23]), &["sound"]), 50) };
 
 /// Of three jobs one is as it was made, the others damaged; some have 16 points, some the most triangles.
 pub fn any_job(random: &mut Random, most_points: usize) -> Made {

@@ -13,8 +13,8 @@ use cottontuff::{Judgement, Number};
 pub const GROUP: Group = Group { name: "judge", run, wanted };
 
 fn wanted(_: &Part) -> (Vec<String>, u64) {
-    let laws = ["law 1", "law 2", "law 3", "law 4", "law 5", "law 6", "law 7", "lawful"];
-    (refusals(2..=13, &laws), 20)
+    let laws = ["law 1", "law 2", "law 3", "law 4", "law 5", "law 6", "law 7", "law 8", "lawful"];
+    (refusals((2..=13).chain([22, 23]), &laws), 20)
 }
 
 fn bytes(list: &[Four]) -> Vec<u8> {

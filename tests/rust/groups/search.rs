@@ -12,7 +12,9 @@ use crate::tally::{refusal, Tally};
 pub const GROUP: Group = Group { name: "search", run, wanted };
 
 fn wanted(_: &Part) -> (Vec<String>, u64) {
-    (refusals(2..=15, &["filled", "filled, listed twice", "filled, not the one it was made from"]), 20)
+    let kinds =
+        ["filled", "filled, listed twice", "filled, not the one it was made from", "filled, with inner triangles", "15, with inner triangles"];
+    (refusals((2..=15).chain([22, 23]), &kinds), 20)
 }
 
 const STEPS: u64 = 20_000;
@@ -21,7 +23,7 @@ const STEPS: u64 = 20_000;
 type Answer = ([u32; 3], Vec<u8>);
 
 /// Refused by the checker, by a short buffer, or with 15; else the list at the start of the buffer.
-fn expected(job: &Result<(Job, Best), u32>, mut buffer: Vec<u8>) -> Answer {
+pub fn expected(job: &Result<(Job, Best), u32>, mut buffer: Vec<u8>) -> Answer {
     let (worst, list) = match job {
         Err(number) => return ([*number, 0, 0], buffer),
         Ok(_) if buffer.len() < 7280 => return ([14, 0, 0], buffer),
@@ -49,7 +51,7 @@ fn searched(tally: &mut Tally, made: &Made, twice: bool) -> Option<Result<(Job, 
     Some(Ok((job, best)))
 }
 
-fn safely(job: &cottontuff::Job, answer: &mut [u8]) -> [u32; 3] {
+pub fn safely(job: &cottontuff::Job, answer: &mut [u8]) -> [u32; 3] {
     match cottontuff::search_into(job, answer) {
         Ok(found) => [0, found.count as u32, found.worst],
         Err(number) => [number.0, 0, 0],
@@ -72,6 +74,9 @@ fn run(part: &Part) -> Tally {
         let pattern: Vec<u8> = (0..len).map(|i| fill ^ i as u8).collect();
         let expected = expected(&job, pattern.clone());
         let kind = if expected.0[0] == 0 { "filled".to_string() } else { refusal(expected.0[0]) };
+        if !made.inner.is_empty() && matches!(expected.0[0], 0 | 15) {
+            tally.count(if expected.0[0] == 0 { "filled, with inner triangles" } else { "15, with inner triangles" });
+        }
         if matches!(&job, Ok((_, Some(best))) if best.1 != made.filling) {
             tally.count("filled, not the one it was made from");
         }

@@ -1,8 +1,11 @@
-//! Stored answers, where a folder of them is given: NAME.txt with NAME.out, judge/cases.txt, measure/cases.txt. Library and reference both
-//! answer them, the reference where it ends soon.
+//! Stored answers, where a folder of them is given: NAME.txt with NAME.out, judge/cases.txt, measure/cases.txt; in a folder slip-NN judge.txt and
+//! lists.txt. Library and reference both answer them, the reference where it ends soon.
+use super::search::{expected as answered, safely};
 use super::{Group, Part};
+use crate::jobs::Made;
 use crate::reference::job;
 use crate::reference::measure::{measure, Measurement};
+use crate::reference::search::best_by_faces;
 use crate::reference::text::{print, read};
 use crate::tally::Tally;
 use cottontuff::{Job, Judgement, Measured};
@@ -17,11 +20,16 @@ fn wanted(part: &Part) -> (Vec<String>, u64) {
 
 const STEPS: u64 = 1_000;
 
-/// The files below a folder, in the order of their names.
+/// The files below a folder, in the order of their names; folders slip-NN in it are left out, since the form in force there may be another.
 pub fn files(folder: &Path) -> Vec<PathBuf> {
     let mut entries: Vec<PathBuf> = fs::read_dir(folder).into_iter().flatten().flatten().map(|e| e.path()).collect();
     entries.sort();
-    entries.into_iter().flat_map(|path| if path.is_dir() { files(&path) } else { vec![path] }).collect()
+    let of_slip = |path: &Path| path.file_name().is_some_and(|name| name.to_string_lossy().starts_with("slip-"));
+    entries
+        .into_iter()
+        .filter(|path| !of_slip(path))
+        .flat_map(|path| if path.is_dir() { files(&path) } else { vec![path] })
+        .collect()
 }
 
 fn printouts(tally: &mut Tally, part: &Part, folder: &Path) {
@@ -48,13 +56,16 @@ pub fn decimals<T: std::str::FromStr>(list: &str) -> Vec<T> {
     list.split(',').filter_map(|n| n.parse().ok()).collect()
 }
 
-fn judge_cases(tally: &mut Tally, folder: &Path) {
-    for case in cases(folder.join("judge/cases.txt")) {
-        let text = fs::read(folder.join("small").join(format!("{}.txt", case[0]))).unwrap_or_default();
+/// Lines JOB;LIST;RESULT.
+fn judge_cases(tally: &mut Tally, lines: PathBuf, jobs: &Path) {
+    for case in cases(lines) {
+        let text = fs::read(jobs.join(format!("{}.txt", case[0]))).unwrap_or_default();
         let lists = read(&text).unwrap_or_default();
         let bytes = |numbers: &[usize]| numbers.iter().map(|n| *n as u8).collect::<Vec<u8>>();
-        let (triangles, kept, list) = (bytes(&lists.triangles), bytes(&lists.kept), decimals::<u8>(&case[1]));
-        let job = Job { points: &lists.points, triangles: &triangles, kept: &kept, table: &lists.table };
+        let (triangles, kept, inner) = (bytes(&lists.triangles), bytes(&lists.kept), bytes(&lists.inner));
+        let list = decimals::<u8>(&case[1]);
+        let job =
+            Job { points: &lists.points, triangles: &triangles, kept: &kept, inner: &inner, table: &lists.table };
         let got = match cottontuff::judge(&job, &list) {
             Ok(Judgement::Lawful(worst)) => format!("W,{worst}"),
             Ok(Judgement::Breaks(law)) => format!("L,{law}"),
@@ -68,6 +79,33 @@ fn judge_cases(tally: &mut Tally, folder: &Path) {
             Err(number) => format!("R,{number}"),
         };
         tally.compare("judged by the reference".to_string(), &case[2], &listed, || case.join(";"));
+    }
+}
+
+/// Lines P;T;E;K;Q;BUFFER;NUMBER,COUNT,WORST;LIST: a job's lists, the length of the buffer, and what the search answers.
+fn list_cases(tally: &mut Tally, folder: &Path) {
+    for case in cases(folder.join("lists.txt")) {
+        let [triangles, kept, inner] = [1, 2, 3].map(|at| decimals(&case[at]));
+        let (points, table) = (decimals(&case[0]), decimals(&case[4]));
+        let made = Made { points, triangles, kept, inner, table, filling: Vec::new() };
+        let pattern: Vec<u8> = (0..case[5].parse().unwrap_or(0)).map(|i: usize| i as u8 ^ 0x5a).collect();
+        let (found, list): (Vec<u32>, Vec<u8>) = (decimals(&case[6]), decimals(&case[7].replace(' ', ",")));
+        let expected = (found, [&list[..], &pattern[list.len()..]].concat());
+        let mut answer = pattern.clone();
+        let got = (safely(&made.job(), &mut answer).to_vec(), answer);
+        tally.compare("searched".to_string(), &expected, &got, || case.join(";"));
+        let job = job::check(&made.lists()).map(|job| {
+            let best = best_by_faces(&job, STEPS);
+            (job, best)
+        });
+        match job {
+            Ok((_, None)) => tally.count("given up"),
+            Ok((job, Some(best))) => {
+                let got = answered(&Ok((job, best)), pattern);
+                tally.compare("searched by the reference".to_string(), &expected, &(got.0.to_vec(), got.1), || case.join(";"));
+            }
+            Err(number) => tally.compare("searched by the reference".to_string(), &expected.0, &vec![number, 0, 0], || case.join(";")),
+        }
     }
 }
 
@@ -104,7 +142,9 @@ fn run(part: &Part) -> Tally {
     for folder in &part.folders {
         printouts(&mut tally, part, folder);
         if part.number == 0 {
-            judge_cases(&mut tally, folder);
+            judge_cases(&mut tally, folder.join("judge/cases.txt"), &folder.join("small"));
+            judge_cases(&mut tally, folder.join("judge.txt"), folder);
+            list_cases(&mut tally, folder);
             measure_cases(&mut tally, folder);
         }
     }

@@ -11,16 +11,16 @@ use crate::tally::Tally;
 pub const GROUP: Group = Group { name: "text", run, wanted };
 
 fn wanted(_: &Part) -> (Vec<String>, u64) {
-    (refusals((1..=13).chain([15]), &["filled", "short buffer"]), 20)
+    (refusals((1..=13).chain([15, 22, 23]), &["filled", "short buffer"]), 20)
 }
 
 pub const STEPS: u64 = 20_000;
 const PRINTOUT: usize = 43_695;
 /// Bytes that matter in a text, and some that never do.
-const BYTES: &[u8] = b"\n,-0123456789PTEQFHRpq +.\r\t\0\x7f\x80\xff";
+const BYTES: &[u8] = b"\n,-0123456789PTEKQFHRpq +.\r\t\0\x7f\x80\xff";
 
 const CASE_B: &[u8] =
-    b"P,0,0,0\nP,6,0,0\nP,0,6,0\nP,1,1,5\nP,1,1,-5\nT,0,1,3\nT,1,2,3\nT,2,0,3\nT,1,0,4\nT,2,1,4\nT,0,2,4\nE,3,4\n\
+    b"P,0,0,0\nP,6,0,0\nP,0,6,0\nP,1,1,5\nP,1,1,-5\nT,0,1,3\nT,1,2,3\nT,2,0,3\nT,1,0,4\nT,2,1,4\nT,0,2,4\nE,3,4\nK,0,3,4\n\
     Q,0,1,2,3,500000\nQ,0,1,2,4,400000\nQ,0,1,3,4,450000\nQ,0,2,3,4,450000\nQ,1,2,3,4,460000\n";
 
 /// One change: a byte set, left out or put in, a cut, two lines exchanged, a line twice, a longer number.
@@ -57,7 +57,7 @@ fn changed(random: &mut Random, mut text: Vec<u8>) -> Vec<u8> {
 /// Texts of the form, or nearly, that are as long as may be or longer: lines of one kind, and a byte more or less.
 fn long(random: &mut Random) -> Vec<u8> {
     let line: &[u8] =
-        random.any(&[&b"P,1,2,3\n"[..], b"T,0,1,2\n", b"E,0,1\n", b"Q,0,1,2,3,1\n", b"\n", b"Q,0,1,2,3,1"]);
+        random.any(&[&b"P,1,2,3\n"[..], b"T,0,1,2\n", b"E,0,1\n", b"K,0,1,2\n", b"Q,0,1,2,3,1\n", b"\n", b"Q,0,1,2,3,1"]);
     let len = random.any(&[65_535, 65_536, 65_536, 65_537, 65_544, 131_072]);
     let mut text = if random.one_in(2) { CASE_B[..CASE_B.len() - 17 * 5].to_vec() } else { Vec::new() };
     while text.len() + line.len() <= len {
@@ -72,13 +72,15 @@ fn long(random: &mut Random) -> Vec<u8> {
     text
 }
 
-/// A job with too many kept edges, or an entry too great.
+/// A job with too many kept edges or inner triangles, or an entry too great.
 fn over_a_limit(random: &mut Random) -> Made {
     let mut made = sound(random, 5);
-    if random.one_in(2) {
-        made.kept = [0, 1].repeat(random.any(&[119, 120, 121, 122, 3000]));
-    } else {
-        made.table.iter_mut().for_each(|entry| *entry = random.any(&[1_000_000, 1_000_000, 1_000_001, 9_999_999]));
+    match random.below(3) {
+        0 => made.kept = [0, 1].repeat(random.any(&[119, 120, 121, 122, 3000])),
+        1 => made.inner = [0, 1, 2].repeat(random.any(&[559, 560, 561, 562, 3000])),
+        _ => {
+            made.table.iter_mut().for_each(|entry| *entry = random.any(&[1_000_000, 1_000_000, 1_000_001, 9_999_999]))
+        }
     }
     made
 }
@@ -146,7 +148,7 @@ fn run(part: &Part) -> Tally {
         let len = random.any(&[0, 4, PRINTOUT - 1, PRINTOUT, PRINTOUT, PRINTOUT, PRINTOUT, PRINTOUT + 1, 50_000]);
         compare(&mut tally, &mut rooms, &text, len);
     }
-    // Case B with a kept edge: at every place each byte that matters set and put in, a byte left out, a cut.
+    // Case B with a kept edge and an inner triangle: at every place each byte that matters set and put in, a byte left out, a cut.
     for at in part.seeds(CASE_B.len() as u64) {
         let at = at as usize;
         for byte in BYTES {

@@ -167,7 +167,7 @@ impl Bench {
         Ok(())
     }
 
-    /// The job of the open cavity: P ascending, the unmatched faces of C, no kept edges, every solid four measured.
+    /// The job of the open cavity: P ascending, the unmatched faces of C, no kept edges, no inner triangles, every solid four measured.
     pub fn cavity_lists(&self) -> Result<Lists, u32> {
         let cavity = self.opened()?;
         let numbers: Vec<usize> = cavity.points.iter().copied().collect();
@@ -180,6 +180,7 @@ impl Bench {
             points: coordinates(&self.points, &numbers),
             triangles: boundary.flat_map(|f| f.iter().map(place).collect::<Vec<_>>()).collect(),
             kept: Vec::new(),
+            inner: Vec::new(),
             table: fours(numbers.len()).into_iter().map(measured).collect(),
         })
     }

@@ -1,4 +1,4 @@
-//! A job's lists, the numbers 2 to 13, and the job that they say where there is none.
+//! A job's lists, the numbers 2 to 13, 22 and 23, and the job that they say where there is none.
 use super::space::{d, Point};
 use std::collections::{BTreeMap, BTreeSet};
 
@@ -11,6 +11,7 @@ pub struct Lists {
     pub points: Vec<i32>,
     pub triangles: Vec<usize>,
     pub kept: Vec<usize>,
+    pub inner: Vec<usize>,
     pub table: Vec<i32>,
 }
 
@@ -19,6 +20,7 @@ pub struct Job {
     pub points: Vec<Point>,
     pub triangles: BTreeSet<Triangle>,
     pub kept: Vec<[usize; 2]>,
+    pub inner: Vec<Triangle>,
     pub quality: BTreeMap<Four, i32>,
 }
 
@@ -87,9 +89,9 @@ fn solid_unmeasured(points: &[Point], table: &[i32]) -> bool {
     fours(points.len()).iter().zip(table).any(|(f, entry)| *entry == -1 && d(f.map(|p| points[p])) != 0)
 }
 
-/// The lowest of 2 to 13 that applies, or the job.
+/// The number whose place comes first of those that apply (22 and 23 stand between 10 and 11), or the job.
 pub fn check(lists: &Lists) -> Result<Job, u32> {
-    let Lists { points, triangles, kept, table } = lists;
+    let Lists { points, triangles, kept, inner, table } = lists;
     let (count, threes, edges) = (points.len() / 3, triangles.len() / 3, kept.len() / 2);
     let refuse = |number: u32, applies: bool| if applies { Err(number) } else { Ok(()) };
     refuse(2, points.len() % 3 != 0 || !(4..=16).contains(&count))?;
@@ -101,6 +103,8 @@ pub fn check(lists: &Lists) -> Result<Job, u32> {
     refuse(8, unbalanced(&triangles_in(triangles)))?;
     refuse(9, kept.len() % 2 != 0 || edges > 120)?;
     refuse(10, kept.chunks(2).any(|e| absent_or_repeated(e, count)))?;
+    refuse(22, inner.len() % 3 != 0 || inner.len() / 3 > 560)?;
+    refuse(23, inner.chunks(3).any(|t| absent_or_repeated(t, count)))?;
     refuse(11, table.len() != fours(count).len())?;
     refuse(12, table.iter().any(|entry| !(-1..=1_000_000).contains(entry)))?;
     refuse(13, solid_unmeasured(&points_in(points), table))?;
@@ -108,6 +112,7 @@ pub fn check(lists: &Lists) -> Result<Job, u32> {
         points: points_in(points),
         triangles: triangles_in(triangles).into_iter().map(turned).collect(),
         kept: kept.chunks(2).map(|e| [e[0], e[1]]).collect(),
+        inner: triangles_in(inner).into_iter().map(turned).collect(),
         quality: fours(count).into_iter().zip(table.iter().copied()).collect(),
     })
 }

@@ -1,4 +1,4 @@
-//! The seven laws of a filling, each as document 01 words it, and the judge.
+//! The eight laws of a filling, each as documents 01 and 02 word it, and the judge.
 use super::job::{turned, Four, Job, Triangle};
 use super::space::{apart, d, inside, Point};
 use std::collections::BTreeSet;
@@ -65,15 +65,21 @@ impl Job {
         self.kept.iter().all(|[a, b]| list.iter().any(|f| f.contains(a) && f.contains(b)))
     }
 
-    /// The lowest of laws 2 to 7 that a list breaks; law 1 is kept. Each is asked only where those before it are kept.
+    fn law_8(&self, list: &[Four]) -> bool {
+        let all: BTreeSet<Triangle> = list.iter().flat_map(|f| faces(&self.points, *f)).collect();
+        self.inner.iter().all(|t| all.contains(t) || all.contains(&reverse(*t)))
+    }
+
+    /// The lowest of laws 2 to 8 that a list breaks; law 1 is kept. Each is asked only where those before it are kept.
     pub fn lowest_broken(&self, list: &[Four]) -> Option<u32> {
-        let laws: [&dyn Fn() -> bool; 6] = [
+        let laws: [&dyn Fn() -> bool; 7] = [
             &|| list.iter().all(|f| self.law_2(*f)),
             &|| list.iter().all(|f| self.law_3(*f)),
             &|| self.law_4(list),
             &|| self.every_two_apart(list),
             &|| self.law_6(list),
             &|| self.law_7(list),
+            &|| self.law_8(list),
         ];
         laws.iter().position(|kept| !kept()).map(|at| at as u32 + 2)
     }

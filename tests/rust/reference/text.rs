@@ -22,10 +22,10 @@ fn number(field: &str, minus: bool) -> Option<i32> {
 fn line(line: &str) -> Option<(usize, Vec<i32>)> {
     let mut fields = line.split(',');
     let letter = fields.next()?;
-    let kind = ["P", "T", "E", "Q"].iter().position(|l| *l == letter)?;
+    let kind = ["P", "T", "E", "K", "Q"].iter().position(|l| *l == letter)?;
     let numbers: Vec<i32> = fields.map(|f| number(f, kind == 0)).collect::<Option<_>>()?;
     let rising = |n: &[i32]| n.windows(2).all(|two| two[0] < two[1]);
-    let right = numbers.len() == [3, 3, 2, 5][kind] && (kind < 3 || rising(&numbers[..4]));
+    let right = numbers.len() == [3, 3, 2, 3, 5][kind] && (kind < 4 || rising(&numbers[..4]));
     right.then_some((kind, numbers))
 }
 
@@ -58,11 +58,11 @@ pub fn read(text: &[u8]) -> Option<Lists> {
     let of_kind = |kind: usize| lines.iter().filter(move |l| l.0 == kind).flat_map(|l| l.1.iter().copied());
     let unsigned = |kind: usize| of_kind(kind).map(|n| n as usize).collect();
     let points: Vec<i32> = of_kind(0).collect();
-    let entries: Vec<Vec<i32>> = lines.iter().filter(|l| l.0 == 3).map(|l| l.1.clone()).collect();
+    let entries: Vec<Vec<i32>> = lines.iter().filter(|l| l.0 == 4).map(|l| l.1.clone()).collect();
     let count = points.len() / 3;
     // Beyond 16 points the job is refused before its table is looked at.
     let table = if count <= 16 { table(count, &entries).unwrap_or_default() } else { Vec::new() };
-    Some(Lists { points, triangles: unsigned(1), kept: unsigned(2), table })
+    Some(Lists { points, triangles: unsigned(1), kept: unsigned(2), inner: unsigned(3), table })
 }
 
 fn refusal(number: u32) -> String {

@@ -1,0 +1,205 @@
+/* Cottontuff, the cavity kernel, for C and C++: refills a hole in a tetrahedral mesh with the tetrahedra whose worst quality is best. Its answers are proved.
+ * `make` builds the static library and a pkg-config file (README.md). Of the C library it needs memcpy and memset, and nothing else.
+ *
+ * A complete example; tests/header compiles it as C and as C++, runs it, and compares what it prints with what stands below it.
+
+#include <stdio.h>
+#include "cottontuff.h"
+
+int main(void) {
+    static const int32_t points[] = {0, 0, 0, 6, 0, 0, 0, 6, 0, 1, 1, 5, 1, 1, -5};
+    static const uint8_t triangles[] = {0, 1, 3, 1, 2, 3, 2, 0, 3, 1, 0, 4, 2, 1, 4, 0, 2, 4};
+    static const int32_t table[] = {500000, 400000, 450000, 450000, 460000};
+    static uint8_t answer[COTTONTUFF_ANSWER_BYTES];
+    cottontuff_found found = cottontuff_search(points, 15, triangles, 18, NULL, 0, table, 5, answer, sizeof answer);
+    if (found.number != COTTONTUFF_DONE) {
+        printf("refused: number %u\n", (unsigned)found.number);
+        return 1;
+    }
+    printf("%u tetrahedra, worst quality %u millionths\n", (unsigned)found.count, (unsigned)found.worst);
+    for (uint32_t i = 0; i < found.count; i++)
+        printf("%d %d %d %d\n", answer[4 * i], answer[4 * i + 1], answer[4 * i + 2], answer[4 * i + 3]);
+    return 0;
+}
+
+ * It prints
+ *   3 tetrahedra, worst quality 450000 millionths
+ *   0 1 3 4
+ *   0 2 3 4
+ *   1 2 3 4
+ *
+ * What holds for every function
+ * - It takes any lists and answers: a filling, a verdict, or one of the numbers below. Nothing need be looked at first.
+ * - The caller owns all memory. Nothing is allocated, freed or kept; there is no state between calls, so threads may call at the same time.
+ * - A list is a pointer and its count of elements (not of points or triangles). With count 0 the pointer may be anything, also NULL.
+ *   A list may not overlap a buffer that is written to.
+ * - A refusal changes no byte of a lent buffer.
+ * - Stack: see COTTONTUFF_STACK_BYTES below. */
+#ifndef COTTONTUFF_H
+#define COTTONTUFF_H
+
+#include <stddef.h>
+#include <stdint.h>
+
+#ifdef __cplusplus
+extern "C" {
+#endif
+
+#define COTTONTUFF_VERSION "1.0.1"
+
+/* ---- sizes of a job */
+#define COTTONTUFF_LEAST_POINTS 4
+#define COTTONTUFF_MOST_POINTS 16
+#define COTTONTUFF_MOST_TRIANGLES 560                          /* threes of 16 points: 16 * 15 * 14 / 6 */
+#define COTTONTUFF_MOST_KEPT 120                               /* twos of 16 points: 16 * 15 / 2 */
+#define COTTONTUFF_MOST_FOURS 1820                             /* fours of 16 points: 16 * 15 * 14 * 13 / 24 */
+#define COTTONTUFF_TABLE_LENGTH_OF(n) ((n) * ((n)-1) * ((n)-2) * ((n)-3) / 24) /* entries of the table of n points */
+#define COTTONTUFF_ANSWER_BYTES (4 * COTTONTUFF_MOST_FOURS)    /* 7,280: the least length of the search's buffer */
+#define COTTONTUFF_FURTHEST 10000                              /* coordinates from -10,000 to 10,000 */
+#define COTTONTUFF_MILLIONTHS 1000000                          /* the greatest quality */
+#define COTTONTUFF_UNMEASURED_ENTRY (-1)                       /* in a table: not measured. 0 bars a four: the two are not the same. */
+#define COTTONTUFF_BARRED_ENTRY 0
+
+/* ---- sizes of text and printout */
+#define COTTONTUFF_TEXT_BYTES 65536                            /* a longer text is refused with 1 */
+#define COTTONTUFF_PRINT_BYTES 43695                           /* 15 for the F line, 24 for each of 1,820 H lines: the least length of the printout's buffer */
+
+/* ---- sizes of the bench */
+#define COTTONTUFF_BENCH_POINTS 64
+#define COTTONTUFF_BENCH_TETS 256
+
+/* A stack for cottontuff_search, cottontuff_print and cottontuff_bench_replace. Each level of the search's recursion sets a tetrahedron, and no more than 280 can be set at once: the second is
+ * proved. A level takes 880 bytes, read off the library, and 481,688 was the deepest that was measured, levels included (docs/BENCHMARKS.md): the compiler's part is not proved. */
+#define COTTONTUFF_STACK_BYTES (768 * 1024)
+
+/* ---- what is answered: the lowest number that applies */
+enum cottontuff_number {
+    COTTONTUFF_DONE = 0,
+    COTTONTUFF_BAD_TEXT = 1,         /* printout: over 65,536 bytes, or not of the form */
+    COTTONTUFF_POINT_COUNT = 2,      /* not 4 to 16 points (a mesh: 4 to 64), or length no multiple of 3 */
+    COTTONTUFF_FAR_COORDINATE = 3,   /* a coordinate below -10,000 or above 10,000 */
+    COTTONTUFF_SAME_PLACE = 4,       /* two points in one place */
+    COTTONTUFF_TRIANGLE_COUNT = 5,   /* not 4 to 560 triangles, or length no multiple of 3 */
+    COTTONTUFF_BAD_TRIANGLE = 6,     /* a triangle with an absent or repeated point */
+    COTTONTUFF_SAME_TRIANGLE = 7,    /* two triangles with the same three points */
+    COTTONTUFF_OPEN_BOUNDARY = 8,    /* a directed edge stands more or less often than its reverse */
+    COTTONTUFF_KEPT_COUNT = 9,       /* over 120 kept edges, or odd length */
+    COTTONTUFF_BAD_KEPT = 10,        /* a kept edge with an absent or repeated point */
+    COTTONTUFF_TABLE_LENGTH = 11,    /* not one entry for each four of points */
+    COTTONTUFF_BAD_ENTRY = 12,       /* an entry below -1 or above 1,000,000 */
+    COTTONTUFF_UNMEASURED = 13,      /* a solid four has entry -1: measure it. It is not barred; 0 bars. */
+    COTTONTUFF_SHORT_BUFFER = 14,    /* the search's buffer is under 7,280 bytes */
+    COTTONTUFF_NO_FILLING = 15,      /* no lawful filling exists: proved, not given up */
+    COTTONTUFF_NOT_TWELVE = 16,      /* measuring: not twelve coordinates */
+    COTTONTUFF_TET_COUNT = 17,       /* mesh: not 1 to 256 tetrahedra, or length no multiple of 4 */
+    COTTONTUFF_BAD_TET = 18,         /* mesh: a tetrahedron is flat, or has an absent or repeated point */
+    COTTONTUFF_SHARED_FACE = 19,     /* mesh: an outward face belongs to two tetrahedra */
+    COTTONTUFF_NO_SUCH_TET = 20,     /* open: there is no tetrahedron of that number */
+    COTTONTUFF_NO_MESH = 31,         /* open, grow, replace, close: the value holds no mesh: none was loaded, or it is not sound (the bench, below) */
+    COTTONTUFF_CAVITY_OPEN = 32,     /* load, open: a cavity is open */
+    COTTONTUFF_NO_CAVITY = 33,       /* grow, replace, close: none is open */
+    COTTONTUFF_CAVITY_FULL = 34,     /* grow: 16 points already */
+    COTTONTUFF_NOTHING_AROUND = 35,  /* grow: no tetrahedron outside shares a face with the cavity */
+    COTTONTUFF_NOT_BETTER = 36,      /* replace: no lawful filling has a worst quality above that of the cavity */
+    COTTONTUFF_TOO_MANY_TETS = 37,   /* replace: over 256 tetrahedra would result */
+    COTTONTUFF_WOULD_SHARE_FACE = 38 /* replace: an outward face would belong to two tetrahedra */
+};
+
+/* ---- jobs
+ * points: x, y, z of each point, numbered from 0.
+ * triangles: three point numbers each, counter-clockwise seen from outside the cavity.
+ * kept: two point numbers for each edge that the filling must have; an edge may be repeated or reversed.
+ * table: a quality for each four of points a < b < c < d, in lexicographic order (0123, 0124, 0134, 0234, 1234 for five points):
+ *        1 to 1,000,000 millionths, 0 bars the four, -1 leaves it unmeasured, which only a flat four may be. */
+
+/* 0 for a job that can be searched, else 2 to 13. */
+uint32_t cottontuff_check(const int32_t *points, size_t points_len, const uint8_t *triangles, size_t triangles_len,
+                          const uint8_t *kept, size_t kept_len, const int32_t *table, size_t table_len);
+
+typedef struct {
+    uint32_t number; /* 0, or 2 to 13, and then the rest is 0 */
+    uint32_t law;    /* 0, or the lowest law broken, 1 to 7 */
+    uint32_t worst;  /* the worst quality, in millionths, where no law is broken */
+} cottontuff_verdict;
+
+/* Judges a list of fours: four point numbers for each tetrahedron. */
+cottontuff_verdict cottontuff_judge(const int32_t *points, size_t points_len, const uint8_t *triangles, size_t triangles_len,
+                                    const uint8_t *kept, size_t kept_len, const int32_t *table, size_t table_len,
+                                    const uint8_t *list, size_t list_len);
+
+typedef struct {
+    uint32_t number; /* 0, or 2 to 15, and then the rest is 0 */
+    uint32_t count;  /* tetrahedra of the filling */
+    uint32_t worst;  /* their least quality, in millionths */
+} cottontuff_found;
+
+/* The lawful filling of greatest worst quality, the first among equals: 4 * count bytes at the start of answer, each four with increasing point numbers.
+ * The bytes behind them keep their values. */
+cottontuff_found cottontuff_search(const int32_t *points, size_t points_len, const uint8_t *triangles, size_t triangles_len,
+                                   const uint8_t *kept, size_t kept_len, const int32_t *table, size_t table_len,
+                                   uint8_t *answer, size_t answer_len);
+
+/* ---- measuring */
+typedef struct {
+    double d;            /* six times the volume, exact; 0 where flat */
+    double s;            /* the sum of the six squared edge lengths, exact */
+    double shape;        /* the cube of the mean ratio, above 0 to 1, where roundings may leave it a little above; 0 where flat */
+    uint32_t number;     /* 0, or 3 or 16, and then the rest is 0 */
+    uint32_t flat;       /* 1 or 0 */
+    uint32_t millionths; /* the quality for a table, 1 to 1,000,000; 0 where flat: write -1 into the table then */
+} cottontuff_measured;
+
+/* coordinates: x, y, z of each of the four corners, in any order of the corners. */
+cottontuff_measured cottontuff_measure(const int32_t *coordinates, size_t coordinates_len);
+
+/* Measures a job's table: every entry that is COTTONTUFF_UNMEASURED_ENTRY becomes the quality of its four, and stays -1 where the four is flat. No other entry is touched, so what is barred
+ * or measured by hand stands. table: lent, COTTONTUFF_TABLE_LENGTH_OF(points) entries. Answers 0, or 2, 3, 4 or 11, and then the table is as it was. */
+uint32_t cottontuff_measure_table(const int32_t *points, size_t points_len, int32_t *table, size_t table_len);
+
+/* ---- text and printout */
+/* The printout of a job's text, as the program `cavity` prints it: the bytes, without a 0 behind them, at the start of out; answers how many there are.
+ * A text of any bytes has a printout. Into a buffer under COTTONTUFF_PRINT_BYTES nothing is written, and the answer is 0. */
+size_t cottontuff_print(const uint8_t *text, size_t text_len, uint8_t *out, size_t out_len);
+
+/* ---- the bench: a mesh and at most one open cavity, handed over and back by value
+ * Every operation takes any value, and what counts is what it holds, not who made it. It is sound if load would take its points and tetrahedra, each quality is
+ * the measured one, and, where a cavity is open, that has at least one tetrahedron and at most 16 points, its points are the corners of its tetrahedra, and it has
+ * every tetrahedron whose four corners are among them. Any other value counts as holding no mesh and no cavity. A refusal gives back the value as it came. */
+typedef struct {
+    int32_t points[3 * COTTONTUFF_BENCH_POINTS];
+    uint8_t tets[4 * COTTONTUFF_BENCH_TETS];     /* four point numbers each, corners as given */
+    uint32_t qualities[COTTONTUFF_BENCH_TETS];   /* measured, in millionths */
+    uint8_t in_cavity[COTTONTUFF_BENCH_TETS];    /* not 0: the tetrahedron is in the open cavity */
+    uint8_t in_points[COTTONTUFF_BENCH_POINTS];  /* not 0: the point is one of the cavity's */
+    uint32_t point_count, tet_count;             /* how many of the arrays' entries are the mesh's */
+    uint32_t count;                              /* successful replacements since it was fresh, stopping at 4,294,967,295 */
+    uint8_t open;                                /* not 0: a cavity is open */
+} cottontuff_bench;
+
+typedef struct {
+    uint32_t number; /* 0 for done */
+    cottontuff_bench bench;
+} cottontuff_bench_answer;
+
+cottontuff_bench cottontuff_bench_fresh(void);
+
+/* points: x, y, z of 4 to 64 points; tets: four point numbers of each of 1 to 256 tetrahedra. 32, then 2, 3, 4, 17, 18, 19. The count stays. */
+cottontuff_bench_answer cottontuff_bench_load(cottontuff_bench bench, const int32_t *points, size_t points_len,
+                                              const uint8_t *tets, size_t tets_len);
+
+/* Starts a cavity with one tetrahedron, by its number in list order from 0. 31, 32, 20. */
+cottontuff_bench_answer cottontuff_bench_open(cottontuff_bench bench, uint32_t tet);
+
+/* Adds the corner met by most of the tetrahedra around the cavity, and all tetrahedra whose corners are then in it. 31, 33, 34, 35. */
+cottontuff_bench_answer cottontuff_bench_grow(cottontuff_bench bench);
+
+/* Replaces the cavity by its best filling, if its worst quality rises: the rest of the list keeps its order, the new tetrahedra follow. 31, 33, 36, 37, 38. */
+cottontuff_bench_answer cottontuff_bench_replace(cottontuff_bench bench);
+
+/* Drops the cavity. 31, 33. */
+cottontuff_bench_answer cottontuff_bench_close(cottontuff_bench bench);
+
+#ifdef __cplusplus
+}
+#endif
+#endif
