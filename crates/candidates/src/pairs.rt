@@ -17,7 +17,7 @@ ghost use Rattle.fillings.specs.Steps.{Context};
 ghost use Rattle.fillings.specs.Tables.{All-below};
 ghost use Rattle.signs.specs.Rows.{Rows, Distinct-below};
 ghost use Rattle.trail.specs.State.{Coded};
-ghost use Rattle.candidates.specs.Clashes.{Corner-sets, Through, Piercing-sets};
+ghost use Rattle.fillings.specs.Clashes.{Corner-sets, Through, Piercing-sets};
 use bits::word16::common;
 use bits::word16::either;
 use bits::word16::has;

@@ -1,8 +1,8 @@
 // The cavity's boundary: the faces of its tetrahedra that are unmatched among them, with the numbers of its points. Assumes nothing.
 use crate::place::place_of;
+use fours::list::four_at;
 use geometry::tetrahedron::Four;
 use geometry::tetrahedron::oriented;
-use judge::fours::four_at;
 use mesh::faces::face_codes;
 use mesh::faces::tri_code;
 ghost use mathlib.Core.Path.{_≡_};

@@ -6,3 +6,4 @@ pub mod Steps
 pub mod Depth
 pub mod Tables
 pub mod Filing
+pub mod Clashes

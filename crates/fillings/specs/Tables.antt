@@ -4,12 +4,13 @@ use mathlib.Core.Bool.{Bool, true, false, _||_, cond}
 use mathlib.Core.Logic.{_⊎_}
 use mathlib.Core.List.{List}
 use Prim.Native.Nat.{ℕ, _+_, _*_, _/_, _≤_, _<_}
-use lib.Dec.{ltb, leb}
+use lib.Dec.{leb}
 use lib.ListN.{length, getD, set}
 use Rattle.geometry.specs.declared.tetrahedron.Four.{Four}
-use Rattle.laws.specs.Laws.{Job, Tri, tri, reversed, entry, quality, corner-of, fours-in, lawful, worst}
+use Rattle.laws.specs.Laws.{Job, tri, entry, quality, corner-of, fours-in, lawful, worst}
 use Rattle.laws.specs.Lists.{Lists}
 use Rattle.laws.specs.Check.{job}
+use Rattle.laws.specs.inner.FaceFlags.{flagged-either}
 use Rattle.laws.specs.inner.FaceCodes.{face-code, flip-code}
 use Rattle.laws.specs.inner.Listed.{tri-at}
 use Rattle.fillings.specs.Marks.{nth, marked, Pool, Covers}
@@ -56,18 +57,14 @@ pub data Unlinked (n : ℕ) (es flags : List ℕ) : Type 0 where
   point : (p : ℕ) → p < n → getD flags (p * 16 + p) 0 ≡ 0 → Unlinked n es flags
   edge : (i : ℕ) → i < length es / 2 → getD flags (getD es (i * 2) 0 * 16 + getD es (i * 2 + 1) 0) 0 ≡ 0 → Unlinked n es flags
 
--- a triangle or its reverse is counted in a row by face number
-unfoldable pub counted-either : (row : List ℕ) → Tri → Bool
-counted-either row t = ltb 0 (getD row (face-code t) 0) || ltb 0 (getD row (face-code (reversed t)) 0)
-
--- every inner triangle is, in one of two rows; or one is in neither
+-- every inner triangle is counted by its face number, one way round or the other, in one of two rows; or one is in neither
 pub record All-faced (ks one other : List ℕ) : Type 0 where
-  pub each : (i : ℕ) → i < length ks / 3 → (counted-either one (tri-at ks i) || counted-either other (tri-at ks i)) ≡ true
+  pub each : (i : ℕ) → i < length ks / 3 → (flagged-either one (tri-at ks i) || flagged-either other (tri-at ks i)) ≡ true
 
 pub record Unfaced (ks one other : List ℕ) : Type 0 where
   pub number : ℕ
   pub below : number < length ks / 3
-  pub lacks : (counted-either one (tri-at ks number) || counted-either other (tri-at ks number)) ≡ false
+  pub lacks : (flagged-either one (tri-at ks number) || flagged-either other (tri-at ks number)) ≡ false
 
 -- a choice goes on over the faces `seen`: kind 0 is an open face that no alive candidate owns, 1 no open face so far, any other an open face
 pub record Goes-on (own bound live : List ℕ) (seen : ℕ → Type 0) (kind₀ face₀ kind face : ℕ) : Type 0 where

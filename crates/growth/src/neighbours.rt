@@ -1,7 +1,7 @@
 // The tetrahedra outside the cavity that share a face with one in it. Assumes nothing.
+use fours::list::four_at;
+use fours::list::has_corner;
 use geometry::tetrahedron::Four;
-use judge::cover::has_corner;
-use judge::fours::four_at;
 use mesh::marks::corner_marks;
 use mesh::marks::is_marked;
 ghost use mathlib.Core.Path.{_≡_};

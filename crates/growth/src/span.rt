@@ -1,7 +1,7 @@
 // The cavity that a set of points spans: all tetrahedra with four corners in it. Assumes nothing.
 use crate::neighbours::TetMarks;
-use judge::cover::has_corner;
-use judge::fours::four_at;
+use fours::list::four_at;
+use fours::list::has_corner;
 use mesh::marks::has_corners_in;
 use mesh::marks::is_marked;
 ghost use mathlib.Core.Path.{_≡_};

@@ -1,19 +1,12 @@
 // What a list of fours covers: every point (document 01, law 6) and every kept edge (law 7).
 // Assumes nothing.
-use crate::fours::four_at;
 use checker::list::byte;
-use geometry::tetrahedron::Four;
+use fours::list::four_at;
+use fours::list::has_corner;
 ghost use mathlib.Core.Path.{_≡_};
-ghost use Rattle.laws.specs.Laws.{corner-of, corners-from, holds-edge, all-kept};
+ghost use Rattle.laws.specs.Laws.{corners-from, holds-edge, all-kept};
 ghost use Rattle.laws.specs.inner.Listed.{kept-in};
 ghost use Rattle.laws.specs.inner.ListedFours.{fours-listed};
-
-// Whether the point p is a corner of f.
-pub fn has_corner(f: Four, p: usize) -> bool
-    ensures { λ r. ⌜ r ≡ corner-of p f ⌝ }
-{
-    ((p == f.a) | (p == f.b)) | ((p == f.c) | (p == f.d))
-}
 
 // Whether the edge between the points a and b is an edge of a four of the list.
 fn holds_edge(list: &[u8], a: usize, b: usize) -> bool

@@ -1,10 +1,11 @@
 // Outward faces and the boundary (document 01, law 4), by flags: no face comes twice, every boundary triangle is a face,
 // and every other face has its reverse among the faces, which is no boundary triangle either.
 // Assumes nothing.
-use crate::flags::is_flagged;
-use crate::flags::raise;
-use crate::fours::four_at;
 use checker::list::byte;
+use fours::flags::is_flagged;
+use fours::flags::raise;
+use fours::flags::raise_boundary;
+use fours::list::four_at;
 use geometry::tetrahedron::Four;
 use geometry::tetrahedron::oriented;
 ghost use mathlib.Core.Path.{_≡_};
@@ -44,22 +45,6 @@ pub(crate) fn raise_all_faces(points: &[i32], list: &[u8], flags: &mut [u8; 4096
         new = raise_faces(flags, f) & new;
     }
     new
-}
-
-// Raises the flags of the boundary triangles, from the last to the first.
-pub fn raise_boundary(triangles: &[u8], flags: &mut [u8; 4096])
-    requires { ⌜ All-within 16 (now triangles) ⌝ }
-    ensures { λ _. ⌜ now (flags .exit) ≡ flag-all (triangles-in (now (triangles .entry))) (now (flags .entry)) ⌝ }
-{
-    let mut i = triangles.len() / 3;
-    while 0 < i {
-        i -= 1;
-        let at = i * 3;
-        let a = byte(triangles, at);
-        let b = byte(triangles, at + 1);
-        let c = byte(triangles, at + 2);
-        raise(flags, a, b, c);
-    }
 }
 
 // Whether every boundary triangle has its flag.

@@ -1,8 +1,8 @@
 // Inner triangles (document 02, law 8), by flags: each is a face of the list, as it is or reversed.
 // Assumes nothing.
 use crate::faces::raise_all_faces;
-use crate::flags::is_flagged;
 use checker::list::byte;
+use fours::flags::is_flagged;
 ghost use mathlib.Core.Path.{_≡_};
 ghost use mathlib.Core.Bool.{false};
 ghost use Prim.Native.Nat.{_/_, _<_};

@@ -1,6 +1,6 @@
 // The insides of the tetrahedra of a list: no point lies in one (document 01, law 3), and every two are apart (law 5).
 // Assumes nothing.
-use crate::fours::four_at;
+use fours::list::four_at;
 use geometry::tetrahedron::Four;
 use geometry::tetrahedron::is_inside;
 use geometry::tetrahedron::oriented;

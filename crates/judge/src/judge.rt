@@ -3,10 +3,10 @@
 use crate::cover::keeps_corners;
 use crate::cover::keeps_edges;
 use crate::faces::keeps_faces;
-use crate::fours::keeps_order;
 use crate::inner::keeps_inner;
 use crate::interior::keeps_apart;
 use crate::interior::keeps_points_out;
+use crate::order::keeps_order;
 use crate::quality::keeps_quality;
 use crate::quality::worst_of;
 use checker::check::check_job;

@@ -1,7 +1,7 @@
 // The qualities of the fours of a list: each is solid and above 0 (document 01, law 2), and the worst of them.
 // Assumes nothing.
-use crate::fours::four_at;
-use checker::table::entry;
+use fours::list::four_at;
+use fours::quality::quality_of;
 use geometry::tetrahedron::Four;
 use geometry::tetrahedron::is_solid;
 ghost use mathlib.Core.Path.{_≡_};
@@ -16,18 +16,6 @@ ghost use Rattle.laws.specs.Check.{job};
 ghost use Rattle.laws.specs.inner.NextFour.{Ordered};
 ghost use Rattle.laws.specs.inner.Unmeasured.{Tabled};
 ghost use Rattle.laws.specs.inner.ListedFours.{fours-listed};
-
-// The quality of f by the table, 0 for none.
-pub fn quality_of(points: &[i32], table: &[i32], f: Four) -> u32
-    requires { ⌜ Tabled (now points) (now table) × Ordered (length (points-in (now points))) f ⌝ }
-    ensures { λ r. ⌜ r ≡ quality (entry (job (with-table (now (points .entry)) (now (table .entry)))) f) ⌝ }
-{
-    let v = entry(table, points.len() / 3, f);
-    if v < 0 {
-        return 0;
-    }
-    v as u32
-}
 
 // Whether f is solid and has a quality above 0.
 fn has_quality(points: &[i32], table: &[i32], f: Four) -> bool

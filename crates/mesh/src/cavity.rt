@@ -3,7 +3,7 @@ use crate::marks::corner_marks;
 use crate::marks::count_marked;
 use crate::marks::has_corners_in;
 use crate::marks::is_marked;
-use judge::fours::four_at;
+use fours::list::four_at;
 ghost use mathlib.Core.Path.{_≡_};
 ghost use mathlib.Core.Bool.{_&&_};
 ghost use Prim.Native.Nat.{_/_, _≤_};

@@ -1,8 +1,8 @@
 // Outward faces of a mesh by number (number 19). Assumes nothing.
 use bits::words::has;
 use bits::words::put;
+use fours::list::four_at;
 use geometry::tetrahedron::oriented;
-use judge::fours::four_at;
 ghost use mathlib.Core.Path.{_≡_};
 ghost use mathlib.Core.List.{map};
 ghost use Prim.Native.Nat.{_<_};

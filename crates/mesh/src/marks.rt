@@ -1,7 +1,7 @@
 // Marks: an entry other than 0 marks its number. And corners: of a tetrahedron, of a marked one, of all marked ones, and marked ones. Assumes nothing.
+use fours::list::four_at;
+use fours::list::has_corner;
 use geometry::tetrahedron::Four;
-use judge::cover::has_corner;
-use judge::fours::four_at;
 ghost use mathlib.Core.Path.{_≡_};
 ghost use mathlib.Core.Bool.{_&&_};
 ghost use Prim.Native.Nat.{_/_, _≤_, _<_};

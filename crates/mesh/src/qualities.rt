@@ -1,6 +1,6 @@
 // The measured qualities of a mesh's tetrahedra. Assumes nothing.
+use fours::list::four_at;
 use geometry::tetrahedron::Four;
-use judge::fours::four_at;
 use shape::measure::measure_four;
 use shape::measure::millionths_of;
 ghost use mathlib.Core.Path.{_≡_};

@@ -2,10 +2,10 @@
 // Assumes nothing.
 use crate::faces::faces_once;
 use checker::check::two_alike;
+use fours::list::four_at;
 use geometry::range::any_far;
 use geometry::tetrahedron::Four;
 use geometry::tetrahedron::is_solid;
-use judge::fours::four_at;
 ghost use mathlib.Core.Path.{_≡_};
 ghost use mathlib.Core.Bool.{false};
 ghost use Rattle.geometry.specs.Space.{points-in};

@@ -14,7 +14,7 @@ use Rattle.fillings.specs.Codes.{Owns}
 use Rattle.fillings.specs.Steps.{Context, Ready}
 use Rattle.trail.specs.Counts.{Counts}
 use Rattle.trail.specs.State.{Living, Traced, Same-below}
-use Rattle.candidates.specs.Clashes.{Corner-sets, Piercing-sets}
+use Rattle.fillings.specs.Clashes.{Corner-sets, Piercing-sets}
 
 -- a face of the candidate k is held by a set one; none is
 pub record Blocked (codes held : List ℕ) (k : ℕ) : Type 0 where

@@ -5,7 +5,7 @@ ghost use Prim.Native.Nat.{_+_, _*_, _<_, _≤_};
 ghost use lib.ListN.{length, getD};
 ghost use Rattle.fillings.specs.Tables.{All-below};
 ghost use Rattle.trail.specs.State.{marks-of, owners-of, held-of, trail-of, Coded, In-order};
-ghost use Rattle.candidates.specs.Clashes.{Crossing};
+ghost use Rattle.fillings.specs.Clashes.{Crossing};
 ghost use Rattle.placing.specs.Placement.{Blocked, Free, Clashing, Placement};
 use bits::word16::are_disjoint;
 use trail::marks::drop;

@@ -1,11 +1,11 @@
 // The printout (document 01, "Text and printout"): lines of bytes in a lent buffer. What is written is an equation with a definition of text/specs/Print.antt.
 // Assumes nothing.
+use fours::flags::is_flagged;
+use fours::flags::raise_boundary;
+use fours::list::four_at;
+use fours::quality::quality_of;
 use geometry::tetrahedron::Four;
 use geometry::tetrahedron::oriented;
-use judge::faces::raise_boundary;
-use judge::flags::is_flagged;
-use judge::fours::four_at;
-use judge::quality::quality_of;
 ghost use mathlib.Core.Path.{_≡_};
 ghost use mathlib.Core.Bool.{cond};
 ghost use mathlib.Core.List.{[], _∷_};

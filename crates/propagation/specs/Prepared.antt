@@ -7,7 +7,7 @@ use Rattle.laws.specs.Lists.{Lists}
 use Rattle.fillings.specs.Steps.{Context}
 use Rattle.fillings.specs.Tables.{Boundary-codes}
 use Rattle.signs.specs.Rows.{Rows}
-use Rattle.candidates.specs.Clashes.{Corner-sets, Piercing-sets}
+use Rattle.fillings.specs.Clashes.{Corner-sets, Piercing-sets}
 
 -- what stands by face code, in rows: the signs, the boundary triangles' codes in their order, the boundary as flags
 abbrev pub rows-of : (faces : List (List ℕ)) → List ℕ

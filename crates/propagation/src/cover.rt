@@ -7,7 +7,8 @@ ghost use Rattle.laws.specs.Laws.{tri, fours-in};
 ghost use Rattle.laws.specs.inner.Listed.{All-within};
 ghost use Rattle.laws.specs.inner.ListedFours.{Below};
 ghost use Rattle.fillings.specs.Marks.{nth};
-ghost use Rattle.fillings.specs.Tables.{All-below, linked, Links-are, All-linked, Unlinked, counted-either, All-faced, Unfaced};
+ghost use Rattle.laws.specs.inner.FaceFlags.{flagged-either};
+ghost use Rattle.fillings.specs.Tables.{All-below, linked, Links-are, All-linked, Unlinked, All-faced, Unfaced};
 use geometry::tetrahedron::Four;
 use signs::codes::face_code;
 
@@ -83,7 +84,7 @@ pub(crate) fn all_linked(kept: &[u8], n: usize, link: &[u8]) -> bool
 // Whether the triangle a, b, c or its reverse is counted in a row by face code.
 fn is_counted(row: &[u16; 4096], a: usize, b: usize, c: usize) -> bool
     requires { ⌜ (a < 16) × (b < 16) × (c < 16) ⌝ }
-    ensures { λ r. ⌜ r ≡ counted-either (now (row .entry)) (tri a b c) ⌝ }
+    ensures { λ r. ⌜ r ≡ flagged-either (now (row .entry)) (tri a b c) ⌝ }
 {
     let forth = face_code(a, b, c);
     let back = face_code(a, c, b);

@@ -22,7 +22,7 @@ use Rattle.fillings.proofs.ByCode.BoundaryCodes.{accepted-points-few, context-c
 use Rattle.fillings.proofs.ByNumber.Numbers.{nth-member}
 use Rattle.signs.specs.Rows.{Rows, Distinct-below}
 use Rattle.signs.proofs.Corners.{ordered-distinct}
-use Rattle.candidates.specs.Clashes.{Through}
+use Rattle.fillings.specs.Clashes.{Through}
 
 module _ {L : Lists} {fours codes bound : List ℕ} {m : ℕ} (x : Context L fours codes bound m) (k : ℕ) (l : k < m) where
   context-distinct : Distinct-below (length (points-in (L .points))) (nth (fours-in m fours) k)

@@ -11,7 +11,7 @@ use Rattle.geometry.specs.Space.{four}
 use Rattle.geometry.specs.declared.tetrahedron.Four.{Four}
 use Rattle.laws.specs.Laws.{corner-of}
 use Rattle.laws.proofs.Order.Bytes.{fours-in-nth}
-use Rattle.candidates.specs.Clashes.{Corner-sets}
+use Rattle.fillings.specs.Clashes.{Corner-sets}
 
 -- of the first n
 pub record Corners-to (n : ℕ) (fours corners : List ℕ) : Type 0 where

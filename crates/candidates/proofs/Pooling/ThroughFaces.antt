@@ -23,7 +23,7 @@ use Rattle.fillings.proofs.ByCode.PairFlags.{corner-is}
 use Rattle.fillings.proofs.Pooling.Written.{one-of-four}
 use Rattle.signs.specs.Rows.{Distinct-below}
 use Rattle.signs.proofs.Corners.{turned-distinct, proper-acb, proper-abd, proper-adc, proper-bcd}
-use Rattle.candidates.specs.Clashes.{Through, Piercing-sets}
+use Rattle.fillings.specs.Clashes.{Through, Piercing-sets}
 use Rattle.candidates.proofs.Pooling.FaceDigits.{read-back, digits-same, same-proper, same-cornered, outward-cornered}
 
 -- ---- one face

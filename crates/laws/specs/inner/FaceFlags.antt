@@ -4,7 +4,7 @@ use mathlib.Core.List.{List, [], _∷_}
 use Prim.Native.Nat.{ℕ}
 use lib.Dec.{ltb}
 use lib.ListN.{getD, set}
-use Rattle.laws.specs.Laws.{Tri, reversed}
+use Rattle.laws.specs.Laws.{Tri, reversed, has}
 use Rattle.laws.specs.inner.FaceCodes.{face-code}
 
 unfoldable pub flagged : (flags : List ℕ) → Tri → Bool
@@ -27,7 +27,10 @@ unfoldable pub all-flagged : List Tri → (flags : List ℕ) → Bool
 all-flagged [] fl = true
 all-flagged (t ∷ ts) fl = flagged fl t && all-flagged ts fl
 
--- the flag of a triangle or of its reverse
+-- a triangle or its reverse: among faces, and by its flag
+abbrev pub faced-in : (faces : List Tri) → Tri → Bool
+faced-in all t = has t all || has (reversed t) all
+
 unfoldable pub flagged-either : (flags : List ℕ) → Tri → Bool
 flagged-either fl t = flagged fl t || flagged fl (reversed t)
 

@@ -20,7 +20,7 @@ use Rattle.fillings.specs.Marks.{nth}
 use Rattle.fillings.specs.Tables.{All-below}
 use Rattle.fillings.proofs.ByCode.PairFlags.{Corner, at-a, at-b, at-c, at-d, corner-is}
 use Rattle.fillings.proofs.Piercing.Clash.{pierced-incompatible}
-use Rattle.candidates.specs.Clashes.{Corner-sets, Piercing-sets, Crossing}
+use Rattle.fillings.specs.Clashes.{Corner-sets, Piercing-sets, Crossing}
 use Rattle.placing.specs.Placement.{Clashing}
 
 -- ---- a member of a set of w numbers is below w

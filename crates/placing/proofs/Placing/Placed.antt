@@ -24,7 +24,7 @@ use Rattle.fillings.proofs.Piercing.Clash.{shared-incompatible}
 use Rattle.trail.specs.State.{Coded, Traced}
 use Rattle.trail.proofs.Owners.{counts-flags}
 use Rattle.trail.proofs.Tracing.{traced-fewer, traced-set-stays, traced-set-only}
-use Rattle.candidates.specs.Clashes.{Corner-sets, Piercing-sets}
+use Rattle.fillings.specs.Clashes.{Corner-sets, Piercing-sets}
 use Rattle.placing.specs.Placement.{Blocked, Free, Clashing, Placement}
 use Rattle.placing.proofs.Placing.Placing.{Hindered, by-face, by-edge, Placing}
 

@@ -8,7 +8,7 @@ use borrow.Author.Tests.{not-true, not-false}
 use lib.ListN.{length}
 use Rattle.laws.specs.Laws.{tri}
 use Rattle.laws.specs.inner.Listed.{tri-at}
-use Rattle.fillings.specs.Tables.{counted-either}
+use Rattle.laws.specs.inner.FaceFlags.{flagged-either}
 use Rattle.propagation.proofs.cover.all_faced.Statement.{statement}
 use Rattle.propagation.proofs.cover.all_faced.Tie as tie
 
@@ -19,14 +19,14 @@ some-row : {r s a b : Bool} → r ≡ a → s ≡ b → not (r || s) ≡ false �
 some-row {r} {s} d e h = rw (sym d, sym e) (not-false (r || s) h)
 
 abbrev Inv-loop : tie.InvT-loop
-Inv-loop inner one other i₀ i-end i = (i ≤ length inner / 3) × ((q : ℕ) → q < i → (counted-either one (tri-at inner q) || counted-either other (tri-at inner q)) ≡ true)
+Inv-loop inner one other i₀ i-end i = (i ≤ length inner / 3) × ((q : ℕ) → q < i → (flagged-either one (tri-at inner q) || flagged-either other (tri-at inner q)) ≡ true)
 
 abbrev μ-loop : tie.MeasureT-loop
 μ-loop inner one other i₀ i-end i = length inner / 3 - i
 
 loop-holds : tie.Need-loop-holds Inv-loop μ-loop
 loop-holds c =
-    let s = c .before .args in (omega arith, below-none (λ q. (counted-either (s .one .now) (tri-at (s .inner .now) q) || counted-either (s .other .now) (tri-at (s .inner .now) q)) ≡ true))
+    let s = c .before .args in (omega arith, below-none (λ q. (flagged-either (s .one .now) (tri-at (s .inner .now) q) || flagged-either (s .other .now) (tri-at (s .inner .now) q)) ≡ true))
 
 mul-a : tie.Need-mul-a Inv-loop μ-loop
 mul-a c = omega arith

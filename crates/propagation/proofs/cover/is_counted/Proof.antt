@@ -8,7 +8,7 @@ use lib.Dec.{ltb}
 use lib.ListN.{getD}
 use Rattle.laws.specs.Laws.{Tri, tri, reversed}
 use Rattle.laws.specs.inner.FaceCodes.{face-code}
-use Rattle.fillings.specs.Tables.{counted-either}
+use Rattle.laws.specs.inner.FaceFlags.{flagged, flagged-either}
 use Rattle.propagation.proofs.cover.is_counted.Statement.{statement}
 use Rattle.propagation.proofs.cover.is_counted.Tie as tie
 
@@ -30,8 +30,8 @@ mul-result-2 c = omega (arith, c .before .face-code2 .ensures .1)
 element-copy-out-result-2 : tie.Need-element-copy-out-result-2
 element-copy-out-result-2 c = omega (arith, c .before .face-code2 .ensures .1)
 
-either-code : (row : List ℕ) {c d : ℕ} (t : Tri) → c ≡ face-code t → d ≡ face-code (reversed t) → (ltb 0 (getD row c 0) || ltb 0 (getD row d 0)) ≡ counted-either row t
-unfolding counted-either
+either-code : (row : List ℕ) {c d : ℕ} (t : Tri) → c ≡ face-code t → d ≡ face-code (reversed t) → (ltb 0 (getD row c 0) || ltb 0 (getD row d 0)) ≡ flagged-either row t
+unfolding flagged-either flagged
 either-code row t p q = rw (p, q) refl
 
 returns : tie.Need-returns

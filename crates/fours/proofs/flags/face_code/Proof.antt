@@ -1,8 +1,8 @@
--- `judge::flags::face_code` meets its contract. Assumes nothing.
+-- `fours::flags::face_code` meets its contract. Assumes nothing.
 use Rattle.laws.proofs.Faces.FlagSteps.{a-first, b-first, c-first}
 use native.Mathlib.Omega.{arith}
-use Rattle.judge.proofs.flags.face_code.Statement.{statement}
-use Rattle.judge.proofs.flags.face_code.Tie as tie
+use Rattle.fours.proofs.flags.face_code.Statement.{statement}
+use Rattle.fours.proofs.flags.face_code.Tie as tie
 
 mul-result : tie.Need-mul-result
 mul-result c = omega arith

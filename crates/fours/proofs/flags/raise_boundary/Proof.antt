@@ -1,4 +1,4 @@
--- `judge::faces::raise_boundary` meets its contract. The invariant: the flags of the triangles from the i-th on are raised. Assumes nothing.
+-- `fours::flags::raise_boundary` meets its contract. The invariant: the flags of the triangles from the i-th on are raised. Assumes nothing.
 use mathlib.Core.Path.{_≡_}
 use Prim.Native.Nat.{_≤_, _-_, _/_}
 use lib.ListN.{length}
@@ -7,8 +7,8 @@ use Rattle.laws.specs.inner.Listed.{tris-from}
 use Rattle.laws.specs.inner.FaceFlags.{flag-all}
 use Rattle.laws.proofs.Faces.FlagLoops.{bound-none, bound-more, bound-all}
 use native.Mathlib.Omega.{arith}
-use Rattle.judge.proofs.faces.raise_boundary.Statement.{statement}
-use Rattle.judge.proofs.faces.raise_boundary.Tie as tie
+use Rattle.fours.proofs.flags.raise_boundary.Statement.{statement}
+use Rattle.fours.proofs.flags.raise_boundary.Tie as tie
 
 abbrev Inv-loop : tie.InvT-loop
 Inv-loop triangles flags₀ i₀ flags i = (i ≤ length triangles / 3) × (flags ≡ flag-all (tris-from triangles i) flags₀)

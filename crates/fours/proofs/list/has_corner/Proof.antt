@@ -1,8 +1,8 @@
--- `judge::cover::has_corner` meets its contract. Assumes nothing.
+-- `fours::list::has_corner` meets its contract. Assumes nothing.
 use mathlib.Core.Path.{refl}
 use Rattle.laws.specs.Laws.{corner-of}
-use Rattle.judge.proofs.cover.has_corner.Statement.{statement}
-use Rattle.judge.proofs.cover.has_corner.Tie as tie
+use Rattle.fours.proofs.list.has_corner.Statement.{statement}
+use Rattle.fours.proofs.list.has_corner.Tie as tie
 
 returns : tie.Need-returns
 unfolding corner-of

@@ -1,6 +1,6 @@
-// Fours out of a list of bytes, and their order (document 01, law 1).
+// The order of a list's fours (document 01, law 1).
 // Assumes nothing.
-use checker::list::byte;
+use fours::list::four_at;
 use geometry::tetrahedron::Four;
 ghost use mathlib.Core.Path.{_≡_};
 ghost use mathlib.Core.Bool.{_&&_};
@@ -8,20 +8,7 @@ ghost use Prim.Native.Nat.{_/_, _<_};
 ghost use lib.Dec.{ltb};
 ghost use lib.ListN.{length};
 ghost use Rattle.laws.specs.Laws.{rising, four-before, law-1};
-ghost use Rattle.laws.specs.inner.ListedFours.{fours-listed, four-at, followed};
-
-// The i-th four of a list.
-pub fn four_at(list: &[u8], i: usize) -> Four
-    requires { ⌜ i < length (now list) / 4 ⌝ }
-    ensures { λ r. ⌜ r ≡ four-at (now (list .entry)) i ⌝ }
-{
-    let at = i * 4;
-    let a = byte(list, at);
-    let b = byte(list, at + 1);
-    let c = byte(list, at + 2);
-    let d = byte(list, at + 3);
-    Four { a, b, c, d }
-}
+ghost use Rattle.laws.specs.inner.ListedFours.{fours-listed, followed};
 
 // Whether f has increasing numbers of present points.
 fn is_well_formed(f: Four, n: usize) -> bool

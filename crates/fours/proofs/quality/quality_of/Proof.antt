@@ -1,9 +1,9 @@
--- `judge::quality::quality_of` meets its contract. Assumes nothing.
+-- `fours::quality::quality_of` meets its contract. Assumes nothing.
 use Rattle.laws.proofs.Checker.Points.{points-count}
 use Rattle.laws.proofs.Judge.Qualities.{no-quality, quality-is, cast-fits}
 use native.Mathlib.Omega.{arith}
-use Rattle.judge.proofs.quality.quality_of.Statement.{statement}
-use Rattle.judge.proofs.quality.quality_of.Tie as tie
+use Rattle.fours.proofs.quality.quality_of.Statement.{statement}
+use Rattle.fours.proofs.quality.quality_of.Tie as tie
 
 entry-requires : tie.Need-entry-requires
 entry-requires c κs =

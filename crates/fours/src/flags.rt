@@ -1,14 +1,16 @@
 // Flags by the number of a directed triangle, which is the same from whichever corner it is read.
 // Assumes nothing.
+use checker::list::byte;
 ghost use mathlib.Core.Path.{_≡_};
 ghost use mathlib.Core.Bool.{not};
 ghost use Prim.Native.Nat.{_<_};
 ghost use Rattle.laws.specs.Laws.{tri};
 ghost use Rattle.laws.specs.inner.FaceCodes.{face-code};
-ghost use Rattle.laws.specs.inner.FaceFlags.{flagged, flag};
+ghost use Rattle.laws.specs.inner.FaceFlags.{flagged, flag, flag-all};
+ghost use Rattle.laws.specs.inner.Listed.{triangles-in, All-within};
 
 // The number of the triangle a, b, c: its points to the base 16, the least one first.
-pub(crate) fn face_code(a: usize, b: usize, c: usize) -> usize
+fn face_code(a: usize, b: usize, c: usize) -> usize
     requires { ⌜ (a < 16) × (b < 16) × (c < 16) ⌝ }
     ensures { λ r. ⌜ r ≡ face-code (tri a b c) ⌝ }
 {
@@ -31,7 +33,7 @@ pub fn is_flagged(flags: &[u8; 4096], a: usize, b: usize, c: usize) -> bool
 }
 
 // Raises the flag of a triangle; whether it was down before.
-pub(crate) fn raise(flags: &mut [u8; 4096], a: usize, b: usize, c: usize) -> bool
+pub fn raise(flags: &mut [u8; 4096], a: usize, b: usize, c: usize) -> bool
     requires { ⌜ (a < 16) × (b < 16) × (c < 16) ⌝ }
     ensures { λ r. ⌜ (r ≡ not (flagged (now (flags .entry)) (tri a b c))) × (now (flags .exit) ≡ flag (now (flags .entry)) (tri a b c)) ⌝ }
 {
@@ -39,4 +41,20 @@ pub(crate) fn raise(flags: &mut [u8; 4096], a: usize, b: usize, c: usize) -> boo
     let old = flags[code];
     flags[code] = 1;
     !(0 < old)
+}
+
+// Raises the flags of the boundary triangles, from the last to the first.
+pub fn raise_boundary(triangles: &[u8], flags: &mut [u8; 4096])
+    requires { ⌜ All-within 16 (now triangles) ⌝ }
+    ensures { λ _. ⌜ now (flags .exit) ≡ flag-all (triangles-in (now (triangles .entry))) (now (flags .entry)) ⌝ }
+{
+    let mut i = triangles.len() / 3;
+    while 0 < i {
+        i -= 1;
+        let at = i * 3;
+        let a = byte(triangles, at);
+        let b = byte(triangles, at + 1);
+        let c = byte(triangles, at + 2);
+        raise(flags, a, b, c);
+    }
 }

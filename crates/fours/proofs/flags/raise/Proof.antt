@@ -1,11 +1,11 @@
--- `judge::flags::raise` meets its contract. Assumes nothing.
+-- `fours::flags::raise` meets its contract. Assumes nothing.
 use mathlib.Core.Path.{ap}
 use mathlib.Core.Bool.{not}
 use Rattle.laws.proofs.Faces.FlagSteps.{code-below, flagged-by, flag-by}
 use borrow.Author.Needs.{needs}
 use native.Mathlib.Omega.{arith}
-use Rattle.judge.proofs.flags.raise.Statement.{statement}
-use Rattle.judge.proofs.flags.raise.Tie as tie
+use Rattle.fours.proofs.flags.raise.Statement.{statement}
+use Rattle.fours.proofs.flags.raise.Tie as tie
 
 face-code-requires : tie.Need-face-code-requires
 face-code-requires c κs = search needs

@@ -1,8 +1,8 @@
--- `judge::fours::is_followed` meets its contract. Assumes nothing.
+-- `judge::order::is_followed` meets its contract. Assumes nothing.
 use Rattle.laws.proofs.Judge.FourList.{followed-last, followed-by}
 use native.Mathlib.Omega.{arith}
-use Rattle.judge.proofs.fours.is_followed.Statement.{statement}
-use Rattle.judge.proofs.fours.is_followed.Tie as tie
+use Rattle.judge.proofs.order.is_followed.Statement.{statement}
+use Rattle.judge.proofs.order.is_followed.Tie as tie
 
 add-if1 : tie.Need-add-if1
 add-if1 c = omega arith

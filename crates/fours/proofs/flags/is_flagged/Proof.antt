@@ -1,9 +1,9 @@
--- `judge::flags::is_flagged` meets its contract. Assumes nothing.
+-- `fours::flags::is_flagged` meets its contract. Assumes nothing.
 use Rattle.laws.proofs.Faces.FlagSteps.{code-below, flagged-by}
 use borrow.Author.Needs.{needs}
 use native.Mathlib.Omega.{arith}
-use Rattle.judge.proofs.flags.is_flagged.Statement.{statement}
-use Rattle.judge.proofs.flags.is_flagged.Tie as tie
+use Rattle.fours.proofs.flags.is_flagged.Statement.{statement}
+use Rattle.fours.proofs.flags.is_flagged.Tie as tie
 
 face-code-requires : tie.Need-face-code-requires
 face-code-requires c κs = search needs

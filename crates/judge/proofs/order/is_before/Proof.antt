@@ -1,8 +1,8 @@
--- `judge::fours::is_before` meets its contract. Assumes nothing.
+-- `judge::order::is_before` meets its contract. Assumes nothing.
 use mathlib.Core.Path.{refl}
 use Rattle.laws.specs.Laws.{four-before}
-use Rattle.judge.proofs.fours.is_before.Statement.{statement}
-use Rattle.judge.proofs.fours.is_before.Tie as tie
+use Rattle.judge.proofs.order.is_before.Statement.{statement}
+use Rattle.judge.proofs.order.is_before.Tie as tie
 
 returns : tie.Need-returns
 unfolding four-before

@@ -1,8 +1,8 @@
--- `judge::fours::is_well_formed` meets its contract. Assumes nothing.
+-- `judge::order::is_well_formed` meets its contract. Assumes nothing.
 use mathlib.Core.Path.{refl}
 use Rattle.laws.specs.Laws.{rising}
-use Rattle.judge.proofs.fours.is_well_formed.Statement.{statement}
-use Rattle.judge.proofs.fours.is_well_formed.Tie as tie
+use Rattle.judge.proofs.order.is_well_formed.Statement.{statement}
+use Rattle.judge.proofs.order.is_well_formed.Tie as tie
 
 returns : tie.Need-returns
 unfolding rising

@@ -1,9 +1,9 @@
--- `judge::fours::four_at` meets its contract. Assumes nothing.
+-- `fours::list::four_at` meets its contract. Assumes nothing.
 use mathlib.Core.Path.{refl}
 use Rattle.geometry.specs.Space.{four}
 use native.Mathlib.Omega.{arith}
-use Rattle.judge.proofs.fours.four_at.Statement.{statement}
-use Rattle.judge.proofs.fours.four_at.Tie as tie
+use Rattle.fours.proofs.list.four_at.Statement.{statement}
+use Rattle.fours.proofs.list.four_at.Tie as tie
 
 mul-at : tie.Need-mul-at
 mul-at c = omega arith

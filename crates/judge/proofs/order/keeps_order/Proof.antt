@@ -1,4 +1,4 @@
--- `judge::fours::keeps_order` meets its contract. The invariant: the fours from the i-th on have the answer of all. Assumes nothing.
+-- `judge::order::keeps_order` meets its contract. The invariant: the fours from the i-th on have the answer of all. Assumes nothing.
 use mathlib.Core.Path.{_≡_, refl, sym, ap, _∙_}
 use Prim.Native.Nat.{_≤_, _-_, _/_}
 use lib.ListN.{length}
@@ -8,8 +8,8 @@ use Rattle.laws.proofs.Basics.Passes.{fails, passes}
 use Rattle.laws.proofs.Judge.FourList.{fours-start, order-test, order-end, well-formed-is}
 use Rattle.judge.proofs.Judging.{as-one, both-are}
 use native.Mathlib.Omega.{arith}
-use Rattle.judge.proofs.fours.keeps_order.Statement.{statement}
-use Rattle.judge.proofs.fours.keeps_order.Tie as tie
+use Rattle.judge.proofs.order.keeps_order.Statement.{statement}
+use Rattle.judge.proofs.order.keeps_order.Tie as tie
 
 abbrev Inv-loop : tie.InvT-loop
 Inv-loop list n i₀ i-end i = (i ≤ length list / 4) × (i-end ≡ length list / 4) × (law-1 n (fours-listed list) ≡ law-1 n (fours-from list i))
