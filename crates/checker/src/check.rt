@@ -18,9 +18,17 @@ ghost use Rattle.geometry.specs.Range.{any-far};
 ghost use Rattle.geometry.specs.Space.{of, equal, points-in, point, same-place};
 ghost use Rattle.laws.specs.Laws.{choose};
 ghost use Rattle.laws.specs.Lists.{job-lists};
-ghost use Rattle.laws.specs.Check.{points-right, place-taken, two-alike, edge-bad, entry-bad, any-entry-bad, job-refusal};
+ghost use Rattle.laws.specs.Check.{points-right, place-taken, two-alike, edge-bad, entry-bad, any-entry-bad, refusals, first-refusal, empty, job-refusal};
 ghost use Rattle.laws.specs.inner.Listed.{kept-right, inner-right, kept-in, edge-at, edge-wrong};
 ghost use Rattle.laws.specs.inner.Unmeasured.{table-refusal};
+
+// Whether the job has nothing in it: no number applies to it.
+fn is_empty(points: &[i32], triangles: &[u8], kept: &[u8], inner: &[u8], table: &[i32]) -> bool
+    ensures { λ r. ⌜ r ≡ empty (job-lists (now (points .entry)) (now (triangles .entry)) (now (kept .entry)) (now (inner .entry)) (now (table .entry))) ⌝ }
+{
+    (points.len() == 0)
+        & ((triangles.len() == 0) & ((kept.len() == 0) & ((inner.len() == 0) & (table.len() == 0))))
+}
 
 // Whether number 2 lets the points pass: whole points, 4 to 16 of them.
 fn points_fit(points: &[i32]) -> bool
@@ -156,9 +164,9 @@ fn check_table(points: &[i32], table: &[i32]) -> u32
     0
 }
 
-// The number whose place comes first of those that refuse the job, 0 for none. A list's length is looked at before the list, so no input takes long.
-pub fn check_job(points: &[i32], triangles: &[u8], kept: &[u8], inner: &[u8], table: &[i32]) -> u32
-    ensures { λ r. ⌜ r ≡ job-refusal (job-lists (now (points .entry)) (now (triangles .entry)) (now (kept .entry)) (now (inner .entry)) (now (table .entry))) ⌝ }
+// Numbers 2 to 13, 22 and 23: the one whose place comes first, 0 for none. A list's length is looked at before the list, so no input takes long.
+fn check_lists(points: &[i32], triangles: &[u8], kept: &[u8], inner: &[u8], table: &[i32]) -> u32
+    ensures { λ r. ⌜ r ≡ first-refusal (refusals (job-lists (now (points .entry)) (now (triangles .entry)) (now (kept .entry)) (now (inner .entry)) (now (table .entry)))) ⌝ }
 {
     if !points_fit(points) {
         return 2;
@@ -195,4 +203,14 @@ pub fn check_job(points: &[i32], triangles: &[u8], kept: &[u8], inner: &[u8], ta
         return 23;
     }
     check_table(points, table)
+}
+
+// The number that refuses the job, 0 for none.
+pub fn check_job(points: &[i32], triangles: &[u8], kept: &[u8], inner: &[u8], table: &[i32]) -> u32
+    ensures { λ r. ⌜ r ≡ job-refusal (job-lists (now (points .entry)) (now (triangles .entry)) (now (kept .entry)) (now (inner .entry)) (now (table .entry))) ⌝ }
+{
+    if is_empty(points, triangles, kept, inner, table) {
+        return 0;
+    }
+    check_lists(points, triangles, kept, inner, table)
 }

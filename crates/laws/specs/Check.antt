@@ -134,5 +134,11 @@ refusals l =
     refusal 13 (solid-unmeasured j) ∷
     []
 
+-- NOTHING AT ALL: the job whose one filling is the empty list (document 02, the empty job). No number applies to it.
+unfoldable pub empty : Lists → Bool
+empty l =
+    eqb (length (l .points)) 0
+    && (eqb (length (l .triangles)) 0 && (eqb (length (l .kept)) 0 && (eqb (length (l .inner)) 0 && eqb (length (l .table)) 0)))
+
 unfoldable pub job-refusal : Lists → ℕ
-job-refusal l = first-refusal (refusals l)
+job-refusal l = cond (empty l) 0 (first-refusal (refusals l))

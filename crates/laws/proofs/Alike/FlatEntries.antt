@@ -13,7 +13,7 @@ use Rattle.geometry.specs.Space.{V3, four, solid}
 use Rattle.geometry.specs.declared.tetrahedron.Four.{Four}
 use Rattle.laws.specs.Laws.{Job, rising, entry, quality, law-1, law-2, law-4, law-6, law-7, law-8, broken, lawful, worst, worst-from}
 use Rattle.laws.specs.Lists.{Lists}
-use Rattle.laws.specs.Check.{over, unmeasured, solid-unmeasured, any-entry-bad, job, refusal, first-refusal, refusals, job-refusal}
+use Rattle.laws.specs.Check.{over, unmeasured, solid-unmeasured, any-entry-bad, job, refusal, first-refusal, refusals, empty, job-refusal}
 use Rattle.laws.specs.Alike.{Alike, Flat-entries-differ, Flat-unused}
 use Rattle.laws.proofs.Basics.Tests.{and-of, and-true, true-or-false}
 use Rattle.laws.proofs.Basics.Lists.{Each, more}
@@ -82,7 +82,7 @@ module _ (l : Lists) (qs : List ℤ) (d : Flat-entries-differ l (with-entries l 
   agree = record { points = refl; each = d .solid-same }
 
   refusal-agrees : job-refusal (with-entries l qs) ≡ job-refusal l
-  unfolding job-refusal refusals refusal first-refusal job
+  unfolding job-refusal empty refusals refusal first-refusal job
   refusal-agrees =
       let u = unmeasured-agrees (job l) (job (with-entries l qs)) agree in
       let e = d .long in
@@ -91,7 +91,7 @@ module _ (l : Lists) (qs : List ℤ) (d : Flat-entries-differ l (with-entries l 
     where
       rest :
           solid-unmeasured (job (with-entries l qs)) ≡ solid-unmeasured (job l) → length qs ≡ length (l .table) → any-entry-bad (l .table) ≡ false → any-entry-bad qs ≡ false →
-          first-refusal (refusals (with-entries l qs)) ≡ first-refusal (refusals l)
+          job-refusal (with-entries l qs) ≡ job-refusal l
       rest u e b c = rw (e, b, c, u) refl
 
   verdict-agrees : (fs : List Four) → broken (job (with-entries l qs)) fs ≡ broken (job l) fs

@@ -1,16 +1,17 @@
 -- The direction of an inner triangle has no meaning: turned round or reversed, each test over the inner triangles has the same answer. Assumes nothing.
-use mathlib.Core.Path.{_≡_, refl, sym, subst, ap, _∙_}
+use mathlib.Core.Path.{_≡_, refl, sym, subst, _∙_}
 use mathlib.Core.Bool.{Bool, true, false, _||_}
 use mathlib.Core.Logic.{_⊎_, inl, inr}
-use mathlib.Core.List.{List, [], _∷_}
+use mathlib.Core.List.{List}
 use Prim.Native.Nat.{ℕ}
 use lib.Dec.{leb, eqb}
 use lib.ListN.{length}
 use lib.IntN.{ℤ}
 use Rattle.geometry.specs.declared.tetrahedron.Four.{Four}
 use Rattle.laws.specs.Laws.{Tri, tri, same-tri, reversed, has, all-faces, all-faced, law-4, law-6, law-7, law-8, broken, worst}
+use Rattle.laws.specs.inner.FaceFlags.{faced-in}
 use Rattle.laws.specs.Lists.{Lists}
-use Rattle.laws.specs.Check.{tri-bad, any-tri-bad, solid-unmeasured, job, refusal, first-refusal, refusals, job-refusal}
+use Rattle.laws.specs.Check.{tri-bad, any-tri-bad, solid-unmeasured, job, refusal, first-refusal, refusals, empty, job-refusal}
 use Rattle.laws.specs.inner.Listed.{same-three}
 use Rattle.laws.specs.Alike.{Alike, Either-way, no-more, and-next, Inner-either-way, Direction-unseen}
 use Rattle.laws.proofs.Basics.Tests.{or-true}
@@ -59,19 +60,16 @@ any-bad-either n (and-next {s = s} {t = t} e r) =
     let q = any-bad-either n r in rw (p, q) refl
 
 -- ---- law 8
-abbrev Faced-in : List Tri → Tri → Bool
-Faced-in all t = has t all || has (reversed t) all
-
 turn-same : (t : Tri) → Same (turn t) t
 turn-same t = turn-1 refl
 
-faced-turns : (all : List Tri) (t : Tri) → Faced-in all (turn t) ≡ Faced-in all t
+faced-turns : (all : List Tri) (t : Tri) → faced-in all (turn t) ≡ faced-in all t
 unfolding reversed tri
 faced-turns all t =
     let p = has-same-test all (turn-same t) in
     let q = has-same-test all (same-back (turn-same t)) in rw (p, q) refl
 
-faced-reverses : (all : List Tri) (t : Tri) → Faced-in all (reversed t) ≡ Faced-in all t
+faced-reverses : (all : List Tri) (t : Tri) → faced-in all (reversed t) ≡ faced-in all t
 unfolding reversed tri
 faced-reverses all t = or-swaps (has (reversed t) all) (has t all)
 
@@ -79,7 +77,7 @@ all-faced-either : (all : List Tri) {ss ts : List Tri} → Either-way ss ts → 
 unfolding all-faced
 all-faced-either all no-more = refl
 all-faced-either all (and-next {s = s} {t = t} e r) =
-    let p = either-value (Faced-in all) (faced-turns all) (faced-reverses all) s t e in
+    let p = either-value (faced-in all) (faced-turns all) (faced-reverses all) s t e in
     let q = all-faced-either all r in rw (p, q) refl
 
 -- ---- the job with other inner triangles
@@ -88,13 +86,13 @@ with-inner l ks = record { points = l .points; triangles = l .triangles; kept = 
 
 module _ (l : Lists) (ks : List ℕ) (d : Inner-either-way l (with-inner l ks)) where
   refusal-either : job-refusal (with-inner l ks) ≡ job-refusal l
-  unfolding job-refusal refusals refusal first-refusal job
+  unfolding job-refusal empty refusals refusal first-refusal job
   refusal-either = rest (d .long) (unmeasured-bare (with-inner l ks) ∙ sym (unmeasured-bare l)) (sym (any-bad-either (length (job l .points)) (d .each)))
     where
       rest :
           length ks ≡ length (l .inner) → solid-unmeasured (job (with-inner l ks)) ≡ solid-unmeasured (job l) →
           any-tri-bad (length (job l .points)) (job (with-inner l ks) .inner) ≡ any-tri-bad (length (job l .points)) (job l .inner) →
-          first-refusal (refusals (with-inner l ks)) ≡ first-refusal (refusals l)
+          job-refusal (with-inner l ks) ≡ job-refusal l
       rest n thirteen twenty-three = rw (twenty-three, thirteen, n) refl
 
   verdict-either : (fs : List Four) → broken (job (with-inner l ks)) fs ≡ broken (job l) fs

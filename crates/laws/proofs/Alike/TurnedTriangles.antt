@@ -13,7 +13,7 @@ use lib.IntN.{ℤ}
 use Rattle.geometry.specs.declared.tetrahedron.Four.{Four}
 use Rattle.laws.specs.Laws.{Tri, Edge, same-tri, reversed, has, all-in, matched, all-faces, law-4, law-6, law-7, law-8, broken, worst}
 use Rattle.laws.specs.Lists.{Lists}
-use Rattle.laws.specs.Check.{tri-bad, any-tri-bad, tri-taken, tris-alike, directed, how-often, unmatched, solid-unmeasured, job, refusal, first-refusal, refusals, job-refusal}
+use Rattle.laws.specs.Check.{tri-bad, any-tri-bad, tri-taken, tris-alike, directed, how-often, unmatched, solid-unmeasured, job, refusal, first-refusal, refusals, empty, job-refusal}
 use Rattle.laws.specs.Alike.{Alike, Turned-each, none-left, one-more, Triangles-turned, Turning-unseen}
 use Rattle.laws.proofs.Basics.Tests.{true-or-false}
 use Rattle.laws.proofs.Faces.Triangles.{Same, turn-0, turn-1, turn-2, turn, back, reversed-back, same-tri-true, same-tri-of, same-sym, same-trans, same-back, has-same-test}
@@ -178,7 +178,7 @@ with-triples l ts = record { points = l .points; triangles = ts; kept = l .kept;
 
 module _ (l : Lists) (ts : List ℕ) (d : Triangles-turned l (with-triples l ts)) where
   refusal-turned : job-refusal (with-triples l ts) ≡ job-refusal l
-  unfolding job-refusal refusals refusal first-refusal job
+  unfolding job-refusal empty refusals refusal first-refusal job
   refusal-turned =
       rest (d .long) (unmeasured-bare (with-triples l ts) ∙ sym (unmeasured-bare l)) (sym (any-bad-turned (length (job l .points)) (d .each))) (sym (alike-turned (d .each))) (sym (unmatched-turned (d .each)))
     where
@@ -187,7 +187,7 @@ module _ (l : Lists) (ts : List ℕ) (d : Triangles-turned l (with-triples l ts)
           any-tri-bad (length (job l .points)) (job (with-triples l ts) .triangles) ≡ any-tri-bad (length (job l .points)) (job l .triangles) →
           tris-alike (job (with-triples l ts) .triangles) ≡ tris-alike (job l .triangles) →
           unmatched (directed (job (with-triples l ts) .triangles)) (directed (job (with-triples l ts) .triangles)) ≡ unmatched (directed (job l .triangles)) (directed (job l .triangles)) →
-          first-refusal (refusals (with-triples l ts)) ≡ first-refusal (refusals l)
+          job-refusal (with-triples l ts) ≡ job-refusal l
       rest n thirteen six seven eight = rw (six, seven, eight, thirteen, n) refl
 
   law-4-turned : (fs : List Four) → law-4 (job (with-triples l ts)) fs ≡ law-4 (job l) fs

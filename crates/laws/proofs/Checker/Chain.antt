@@ -1,16 +1,16 @@
--- Numbers 2 to 10, 22, 23, 11 to 13 in their order: a test that refuses ends the chain, one that passes leaves the rest of it. Assumes nothing.
+-- The empty job, then numbers 2 to 10, 22, 23, 11 to 13 in their order: a test that holds ends the chain, one that does not leaves the rest of it. Assumes nothing.
 use mathlib.Core.Path.{_≡_, refl, sym, ap, _∙_}
 use mathlib.Core.Bool.{Bool, true, false, not, cond}
 use mathlib.Core.List.{List}
 use Prim.Native.Nat.{ℕ, _/_}
 use lib.Dec.{eqb}
-use lib.ListN.{length, drop}
+use lib.ListN.{length}
 use lib.IntN.{ℤ}
 use Rattle.geometry.specs.Range.{any-far}
 use Rattle.geometry.specs.Space.{points-in}
 use Rattle.laws.specs.Laws.{choose}
 use Rattle.laws.specs.Lists.{Lists, with-table}
-use Rattle.laws.specs.Check.{points-right, two-alike, any-tri-bad, tris-alike, directed, unmatched, edge-bad, any-entry-bad, solid-unmeasured, job, refusal, first-refusal, refusals, job-refusal}
+use Rattle.laws.specs.Check.{points-right, two-alike, any-tri-bad, tris-alike, directed, unmatched, edge-bad, any-entry-bad, solid-unmeasured, job, refusal, first-refusal, refusals, empty, job-refusal}
 use Rattle.laws.specs.inner.Unmeasured.{table-refusal}
 use Rattle.laws.specs.inner.Listed.{triangles-right, kept-right, inner-right, triangles-in, kept-in}
 use Rattle.laws.proofs.Checker.Points.{points-count}
@@ -133,8 +133,12 @@ by-count l n =
     (cond (edge-bad n (kept-in (l .kept))) 10
     (cond (not (inner-right (l .inner))) 22 (cond (any-tri-bad n (triangles-in (l .inner))) 23 (cond (not (eqb (length (l .table)) (choose n 4))) 11 (from-12 l))))))))))))
 
-pub at-2 : (l : Lists) → Chain (job-refusal l) (not (points-right 16 (l .points))) 2 (from-3 l)
-unfolding job-refusal refusals refusal first-refusal job by-count from-3 from-4 from-5 from-6 from-7 from-8 from-9 from-10 from-22 from-23 from-11 from-12 from-13
+pub at-empty : (l : Lists) → Chain (job-refusal l) (empty l) 0 (first-refusal (refusals l))
+unfolding job-refusal
+at-empty l = record { is = refl }
+
+pub at-2 : (l : Lists) → Chain (first-refusal (refusals l)) (not (points-right 16 (l .points))) 2 (from-3 l)
+unfolding refusals refusal first-refusal job by-count from-3 from-4 from-5 from-6 from-7 from-8 from-9 from-10 from-22 from-23 from-11 from-12 from-13
 at-2 l = record { is = ap (by-count l) (points-count (l .points)) }
 
 -- ---- numbers 11 to 13 see points and table alone

@@ -1,18 +1,14 @@
 -- What specs/Promise.antt promises of fillings, proved. Assumes nothing.
 use mathlib.Core.Path.{_≡_, sym, _∙_}
-use mathlib.Core.Bool.{true, _&&_}
-use lib.Dec.{eqb, leb}
+use mathlib.Core.Bool.{true}
 use native.Mathlib.Nat.{le-antisymm}
 use native.Mathlib.Omega.{arith}
 use lib.ListN.{length}
 use mathlib.Core.Logic.{_⊎_, inl, inr}
-use Prim.Native.Nat.{_%_}
-use borrow.Author.Tests.{leb-true}
 use Rattle.geometry.proofs.Numbers.Value.{value-equal}
 use Rattle.laws.specs.Laws.{worst, four-before, place}
 use Rattle.laws.specs.Promise.{Best-alone, Places-right, Places-rise, Place-next, Fits, Best-there, sum-D, Same-space}
 use Rattle.laws.specs.Check.{job}
-use Rattle.laws.proofs.Basics.Tests.{and-true}
 use Rattle.laws.proofs.Choice.Conditions.{accepted, keeps}
 use Rattle.laws.proofs.Faces.Conforming.{unlike-once}
 use Rattle.laws.proofs.Volume.Volume.{sum-D-total, volume}
@@ -53,8 +49,7 @@ pub fits : Fits
 unfolding Fits job
 fits l fs r k =
     let n = length (job l .points) in
-    let a = and-true (leb 4 n) (leb n 16) (and-true (eqb (length (l .points) % 3) 0) (leb 4 n && leb n 16) (accepted l r .shape) .1) in
-    let m = at-most-1820 n fs (leb-true n 16 (a .1)) (keeps (job l) fs k .l1) in
+    let m = at-most-1820 n fs (accepted l r .few) (keeps (job l) fs k .l1) in
     let e = length-bytes fs in (omega arith, bytes-read-back fs)
 
 -- each of two would come before the other
