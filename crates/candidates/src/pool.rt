@@ -287,7 +287,7 @@ pub fn gather(
     codes: &mut [u16; 7280],
     qualities: &mut [u32; 1820],
 ) -> usize
-    requires { ⌜ (job-refusal (job-lists (now points) (now triangles) (now kept) (now inner) (now table)) ≡ 0) × Rows (points-in (now points)) (now rows) × Bound-flags (job (job-lists (now points) (now triangles) (now kept) (now inner) (now table)) .triangles) (now bound) × (length (now bound) ≡ 4096) × (0 < q) × (length (now fours) ≡ 7280) × (length (now codes) ≡ 7280) × (length (now qualities) ≡ 1820) ⌝ }
+    requires { ⌜ (job-refusal (job-lists (now points) (now triangles) (now kept) (now inner) (now table)) ≡ 0) × Rows (points-in (now points)) (now rows) × Bound-flags (job (job-lists (now points) (now triangles) (now kept) (now inner) (now table)) .triangles) (now bound) × (length (now bound) ≡ 4096) × (0 < q) × (length (now fours) ≡ 7280) × (length (now codes) ≡ 7280) × (length (now qualities) ≡ 1820) × (4 ≤ length (points-in (now points))) ⌝ }
     ensures { λ r. ⌜ Whole (job-lists (now (points .entry)) (now (triangles .entry)) (now (kept .entry)) (now (inner .entry)) (now (table .entry))) q (now (fours .exit)) (now (codes .exit)) (now (qualities .exit)) r ⌝ }
 {
     let n = points.len() / 3;

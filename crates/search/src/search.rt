@@ -13,7 +13,9 @@ ghost use Rattle.signs.specs.Rows.{Rows};
 ghost use Rattle.search.specs.Entry.{in-front, Searched, Search-says};
 ghost use Rattle.propagation.specs.Prepared.{rows-of, boundary-of, bound-of, Prepared};
 ghost use Rattle.trail.specs.State.{Sized-state};
+ghost use Rattle.search.specs.inner.Fixed.{refused-with};
 ghost use Rattle.search.specs.inner.Threshold.{Under, Searched-from};
+use crate::empty::empty_filling;
 use candidates::boundary::boundary_codes;
 use candidates::boundary::named;
 use candidates::pairs::chain;
@@ -35,6 +37,17 @@ pub struct Found {
     pub number: u32,
     pub count: u32,
     pub worst: u32,
+}
+
+// A refusal's answer.
+fn refused(number: u32) -> Found
+    ensures { λ r. ⌜ r ≡ refused-with number ⌝ }
+{
+    Found {
+        number,
+        count: 0,
+        worst: 0,
+    }
 }
 
 // Writes the set candidates' bytes in order; how many there are.
@@ -173,11 +186,7 @@ pub(crate) fn search_prepared(
         &mut state,
     );
     if !a.found {
-        return Found {
-            number: 15,
-            count: 0,
-            worst: 0,
-        };
+        return refused(15);
     }
     finish(
         points,
@@ -389,7 +398,7 @@ pub(crate) fn search_candidates(
     )
 }
 
-// The answer to a job that is not refused, into a buffer of 7,280 bytes at least.
+// The answer to a job that is not refused and not empty, into a buffer of 7,280 bytes at least.
 pub(crate) fn search_accepted(
     points: &[i32],
     triangles: &[u8],
@@ -398,7 +407,7 @@ pub(crate) fn search_accepted(
     table: &[i32],
     answer: &mut [u8],
 ) -> Found
-    requires { ⌜ (job-refusal (job-lists (now points) (now triangles) (now kept) (now inner) (now table)) ≡ 0) × (7280 ≤ length (now answer)) ⌝ }
+    requires { ⌜ (job-refusal (job-lists (now points) (now triangles) (now kept) (now inner) (now table)) ≡ 0) × (7280 ≤ length (now answer)) × (4 ≤ length (points-in (now points))) ⌝ }
     ensures { λ r. ⌜ Searched (job (job-lists (now (points .entry)) (now (triangles .entry)) (now (kept .entry)) (now (inner .entry)) (now (table .entry)))) r (now (answer .entry)) (now (answer .exit)) ⌝ }
 {
     let mut rows = [0u16; 4096];
@@ -462,6 +471,7 @@ fn is_on_boundary(triangles: &[u8], p: usize) -> bool {
     false
 }
 
+// The job with no points that is not refused is the empty one: its filling is the empty list.
 pub fn search(
     points: &[i32],
     triangles: &[u8],
@@ -474,18 +484,13 @@ pub fn search(
 {
     let number = check_job(points, triangles, kept, inner, table);
     if number != 0 {
-        return Found {
-            number,
-            count: 0,
-            worst: 0,
-        };
+        return refused(number);
     }
     if answer.len() < 7280 {
-        return Found {
-            number: 14,
-            count: 0,
-            worst: 0,
-        };
+        return refused(14);
+    }
+    if points.len() == 0 {
+        return empty_filling();
     }
     search_accepted(points, triangles, kept, inner, table, answer)
 }

@@ -1,11 +1,10 @@
 -- The job that replace hands to the search is one the checker accepts: numbers 2 to 13, 22 and 23, one by one. Assumes nothing.
 use mathlib.Core.Path.{_≡_, refl, ap, _∙_}
-use mathlib.Core.Bool.{true}
+use mathlib.Core.Logic.{inr}
 use mathlib.Core.List.{List, [], map}
 use Prim.Native.Nat.{ℕ, _*_, _/_, _%_, _≤_, _<_}
 use native.Mathlib.Omega.{arith}
-use borrow.Author.Tests.{eq-eqb, le-leb}
-use lib.Dec.{eqb}
+use borrow.Author.Tests.{eq-eqb}
 use lib.ListN.{length, length-map}
 use lib.IntN.{ℤ}
 use Rattle.geometry.specs.Space.{point, points-in}
@@ -13,7 +12,6 @@ use Rattle.laws.specs.Laws.{Tri, choose}
 use Rattle.laws.specs.Lists.{job-lists}
 use Rattle.laws.specs.Fours.{all-fours}
 use Rattle.laws.specs.Check.{job, tris-in, edges-in, edge-bad, two-alike, any-tri-bad, tris-alike, directed, unmatched}
-use Rattle.laws.proofs.Basics.Tests.{and-of}
 use Rattle.laws.proofs.Basics.Lists.{Each}
 use Rattle.laws.proofs.Choice.Conditions.{accepted-of, Accepted}
 use Rattle.bench_rules.specs.Bench.{Bench, Cavity, coordinates, renumbered, cavity-triangles, cavity-table}
@@ -25,8 +23,8 @@ use Rattle.bench_rules.proofs.Mesh.Good.{Mesh}
 use Rattle.bench_rules.proofs.Mesh.Cavity.{Good-cavity, held-cavity, points-present}
 use Rattle.bench_rules.proofs.CavityJob.Bounding.{points-unlike, Bounding, cavity-bounding}
 
-threefold : (l k : ℕ) → l ≡ k * 3 → eqb (l % 3) 0 ≡ true
-threefold l k e = eq-eqb (l % 3) 0 (omega arith)
+threefold : (l k : ℕ) → l ≡ k * 3 → l % 3 ≡ 0
+threefold l k e = omega arith
 
 pub opened-accepted :
     (b : Bench) (c : Cavity) → Mesh b → Good-cavity b c →
@@ -34,10 +32,12 @@ pub opened-accepted :
 unfolding job cavity-table tris-in edges-in edge-bad any-tri-bad
 opened-accepted b c m g =
     record {
-      shape = and-of (threefold (length cs) (length P) (coordinates-length (b .points) present)) (and-of (le-leb 4 n (omega (arith, count, r .points))) (le-leb n 16 few));
+      whole = threefold (length cs) (length P) (coordinates-length (b .points) present);
+      few = few;
       near = coordinates-near (b .points) (m .good .near) present;
       places = ap two-alike points ∙ points-unlike b c m g;
-      tri-shape = and-of (threefold (length ts) (length T) long) (and-of (le-leb 4 (length ts / 3) (omega (arith, long, r .least))) (le-leb (length ts / 3) 560 (omega (arith, long, r .most))));
+      tris-whole = threefold (length ts) (length T) long;
+      tris-few = omega (arith, long, r .most);
       tris-good = ap (λ (k : ℕ). any-tri-bad k (tris-in (length ts / 3) ts)) count ∙ ap (any-tri-bad (length P)) triangles ∙ r .good;
       tris-unlike = ap tris-alike triangles ∙ r .unlike;
       edges-even = ap (λ (U : List Tri). unmatched (directed U) (directed U)) triangles ∙ r .even;
@@ -48,6 +48,7 @@ opened-accepted b c m g =
       table-shape = eq-eqb (length (cavity-table cs)) (choose n 4) (table-length cs few);
       entries = entries-good (points-in cs) (all-fours n);
       measured = all-measured cs ts [] [] few;
+      some = inr (omega (arith, count, r .points), omega (arith, long, r .least));
     }
   where
     P : List ℕ

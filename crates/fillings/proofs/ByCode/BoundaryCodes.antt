@@ -17,7 +17,7 @@ use Rattle.laws.specs.inner.Members.{Any, here, there}
 use Rattle.laws.proofs.Basics.Tests.{or-false}
 use Rattle.laws.proofs.Basics.Lists.{each-at-member}
 use Rattle.laws.proofs.Choice.Conditions.{accepted}
-use Rattle.laws.proofs.Checker.Refusal.{points-few, triangles-few, all-present, all-within}
+use Rattle.laws.proofs.Checker.Refusal.{all-present, all-within}
 use Rattle.laws.proofs.Order.Sorted.{law-1-well-formed, increasing}
 use Rattle.laws.specs.inner.FaceCodes.{face-code}
 use Rattle.laws.proofs.Order.Bytes.{fours-in-nth}
@@ -125,10 +125,10 @@ ends-present n (suc m) es h (suc k) l =
 module _ (L : Lists) (ok : job-refusal L ≡ 0) where
   pub accepted-points-few : length (points-in (L .points)) ≤ 16
   unfolding job
-  accepted-points-few = points-few (L .points) (accepted L ok .shape) .few
+  accepted-points-few = accepted L ok .few
 
   pub accepted-triangles-few : length (L .triangles) / 3 ≤ 560
-  accepted-triangles-few = triangles-few (L .triangles) (accepted L ok .tri-shape)
+  accepted-triangles-few = accepted L ok .tris-few
 
   pub accepted-triangles-below-16 : All-below 16 (length (L .triangles) / 3 * 3) (L .triangles)
   unfolding job tri

@@ -5,8 +5,6 @@ use mathlib.Core.Logic.{_⊎_, inl, inr}
 use mathlib.Core.List.{List}
 use Prim.Native.Nat.{ℕ, _+_, _*_, _/_, _%_, _≤_, _<_}
 use native.Mathlib.Omega.{arith}
-use borrow.Author.Tests.{leb-true}
-use lib.Dec.{leb, eqb}
 use lib.ListN.{length, getD, set}
 use Rattle.geometry.specs.Space.{turned}
 use Rattle.geometry.specs.declared.tetrahedron.Four.{Four}
@@ -39,10 +37,7 @@ module _ {L : Lists} {fours codes bound : List ℕ} {m : ℕ} (x : Context L fou
   context-sorted = pool-sorted (x .pool)
 
   pub context-small : length (job L .points) ≤ 16
-  unfolding job
-  context-small =
-      let n = length (job L .points) in
-      leb-true n 16 (and-true (leb 4 n) (leb n 16) (and-true (eqb (length (L .points) % 3) 0) (leb 4 n && leb n 16) (accepted L (x .accepted) .shape) .1) .1)
+  context-small = accepted L (x .accepted) .few
 
   pub context-count : length (fours-in m fours) ≡ m
   context-count = fours-in-length m fours

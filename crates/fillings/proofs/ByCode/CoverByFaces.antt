@@ -1,6 +1,6 @@
 -- What the rows of counts by face say of law 8, and of hope. Assumes nothing.
 use mathlib.Core.Path.{_≡_, refl, sym, subst, ap, _∙_}
-use mathlib.Core.Bool.{Bool, true, false, _&&_, _||_}
+use mathlib.Core.Bool.{Bool, true, false, _||_}
 use mathlib.Core.Logic.{_⊎_, inl, inr}
 use mathlib.Core.List.{List}
 use Prim.Native.Nat.{ℕ, zero, suc, _/_, _<_}
@@ -12,6 +12,7 @@ use Rattle.laws.specs.Lists.{Lists}
 use Rattle.laws.specs.Check.{job, tris-in}
 use Rattle.laws.specs.inner.Listed.{tri-at}
 use Rattle.laws.specs.inner.FaceCodes.{Proper}
+use Rattle.laws.specs.inner.FaceFlags.{flagged, flagged-either, faced-in}
 use Rattle.laws.proofs.Basics.Tests.{contradiction, and-of, and-true, or-false, true-or-false}
 use Rattle.laws.proofs.Basics.Lists.{each-at-member}
 use Rattle.laws.proofs.Choice.Conditions.{accepted}
@@ -19,27 +20,24 @@ use Rattle.laws.proofs.Faces.ProperFaces.{boundary-proper, reversed-proper}
 use Rattle.fillings.specs.Marks.{marked, Fills}
 use Rattle.fillings.specs.Codes.{Owner-flags}
 use Rattle.fillings.specs.Steps.{Context}
-use Rattle.fillings.specs.Tables.{counted-either, All-faced, Unfaced}
+use Rattle.fillings.specs.Tables.{All-faced, Unfaced}
 use Rattle.fillings.proofs.ByNumber.Reduction.{none-inner}
 use Rattle.fillings.proofs.ByCode.BoundaryFlags.{owner-flag-is}
 use Rattle.fillings.proofs.ByCode.Context.{context-count, context-good, context-small}
 use Rattle.fillings.proofs.ByCode.BoundaryCodes.{tri-at-drop, tri-stands}
 
 -- ---- law 8 by number
-abbrev Faced-in : List Tri → Tri → Bool
-Faced-in all t = has t all || has (reversed t) all
-
-all-faced-of : (n : ℕ) (ks : List ℕ) (all : List Tri) → ((i : ℕ) → i < n → Faced-in all (tri-at ks i) ≡ true) → all-faced (tris-in n ks) all ≡ true
+all-faced-of : (n : ℕ) (ks : List ℕ) (all : List Tri) → ((i : ℕ) → i < n → faced-in all (tri-at ks i) ≡ true) → all-faced (tris-in n ks) all ≡ true
 unfolding all-faced tris-in
 all-faced-of zero ks all h = refl
-all-faced-of (suc n) ks all h = and-of (h 0 (omega arith)) (all-faced-of n (drop 3 ks) all (λ i l. ap (Faced-in all) (tri-at-drop ks i) ∙ h (suc i) (omega arith)))
+all-faced-of (suc n) ks all h = and-of (h 0 (omega arith)) (all-faced-of n (drop 3 ks) all (λ i l. ap (faced-in all) (tri-at-drop ks i) ∙ h (suc i) (omega arith)))
 
-all-faced-at : (n : ℕ) (ks : List ℕ) (all : List Tri) → all-faced (tris-in n ks) all ≡ true → (i : ℕ) → i < n → Faced-in all (tri-at ks i) ≡ true
+all-faced-at : (n : ℕ) (ks : List ℕ) (all : List Tri) → all-faced (tris-in n ks) all ≡ true → (i : ℕ) → i < n → faced-in all (tri-at ks i) ≡ true
 unfolding all-faced tris-in
 all-faced-at zero ks all h i l = absurd (omega arith)
-all-faced-at (suc n) ks all h zero l = and-true (Faced-in all (tri-at ks 0)) (all-faced (tris-in n (drop 3 ks)) all) h .0
+all-faced-at (suc n) ks all h zero l = and-true (faced-in all (tri-at ks 0)) (all-faced (tris-in n (drop 3 ks)) all) h .0
 all-faced-at (suc n) ks all h (suc i) l =
-    ap (Faced-in all) (sym (tri-at-drop ks i)) ∙ all-faced-at n (drop 3 ks) all (and-true (Faced-in all (tri-at ks 0)) (all-faced (tris-in n (drop 3 ks)) all) h .1) i (omega arith)
+    ap (faced-in all) (sym (tri-at-drop ks i)) ∙ all-faced-at n (drop 3 ks) all (and-true (faced-in all (tri-at ks 0)) (all-faced (tris-in n (drop 3 ks)) all) h .1) i (omega arith)
 
 or-same : (b : Bool) → (b || b) ≡ true → b ≡ true
 or-same true h = refl
@@ -54,8 +52,8 @@ module _ {L : Lists} {fours codes bound : List ℕ} {m : ℕ} (x : Context L fou
   -- a row that counts the owners with a mark tells whether they have an inner triangle
   counted-is :
       {v : ℕ} {ms row : List ℕ} → Owner-flags m codes ms v row → (i : ℕ) → i < length (L .inner) / 3 →
-      counted-either row (tri-at (L .inner) i) ≡ Faced-in (all-faces (job L .points) (marked v (fours-in m fours) ms)) (tri-at (L .inner) i)
-  unfolding counted-either
+      flagged-either row (tri-at (L .inner) i) ≡ faced-in (all-faces (job L .points) (marked v (fours-in m fours) ms)) (tri-at (L .inner) i)
+  unfolding flagged-either flagged
   counted-is {v} {ms} {row} o i h =
       let all-owners = subst (λ (n : ℕ). Owner-flags n codes ms v row) (sym (context-count x)) o in
       let p = inner-proper i h in

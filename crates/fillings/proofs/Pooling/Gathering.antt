@@ -1,11 +1,10 @@
 -- The loop that gathers candidates into tables: what holds at each four passed, and of the tables at the end. Assumes nothing.
 use mathlib.Core.Path.{_≡_, refl, sym, subst, _∙_}
-use mathlib.Core.Bool.{true, _&&_}
+use mathlib.Core.Bool.{true}
 use mathlib.Core.List.{List, [], _∷_, _++_}
-use Prim.Native.Nat.{ℕ, _+_, _%_, _≤_, _<_}
+use Prim.Native.Nat.{ℕ, _+_, _≤_, _<_}
 use native.Mathlib.Omega.{arith}
-use borrow.Author.Tests.{leb-true, eqb-true}
-use lib.Dec.{leb, eqb}
+use borrow.Author.Tests.{eqb-true}
 use lib.ListN.{length, set, length-set}
 use lib.IntN.{ℤ}
 use Rattle.geometry.specs.Space.{points-in, four, turned}
@@ -13,7 +12,6 @@ use Rattle.geometry.specs.declared.tetrahedron.Four.{Four}
 use Rattle.laws.specs.Laws.{Job, choose, entry, quality, fours-in}
 use Rattle.laws.specs.Lists.{Lists}
 use Rattle.laws.specs.Check.{job, job-refusal}
-use Rattle.laws.proofs.Basics.Tests.{and-true}
 use Rattle.laws.proofs.Basics.Lists.{each-of-members}
 use Rattle.laws.proofs.Choice.Conditions.{accepted}
 use Rattle.laws.proofs.Order.Places.{at-most-1820}
@@ -33,17 +31,13 @@ use Rattle.fillings.proofs.Pooling.Written.{put-length, fours-in-put, f
 
 -- ---- what a job that is not refused says of its points and its table
 pub record Measured (ps qs : List ℤ) : Type 0 where
-  pub least : 4 ≤ length (points-in ps)
   pub most : length (points-in ps) ≤ 16
   pub table : length qs ≡ choose (length (points-in ps)) 4
 
 pub measured : (L : Lists) → job-refusal L ≡ 0 → Measured (L .points) (L .table)
 unfolding job
 measured L h =
-    let n = length (points-in (L .points)) in
-    let a = accepted L h in
-    let s = and-true (leb 4 n) (leb n 16) (and-true (eqb (length (L .points) % 3) 0) (leb 4 n && leb n 16) (a .shape) .1) in
-    record { least = leb-true 4 n (s .0); most = leb-true n 16 (s .1); table = eqb-true (length (L .table)) (choose n 4) (a .table-shape) }
+    let a = accepted L h in record { most = a .few; table = eqb-true (length (L .table)) (choose (length (points-in (L .points))) 4) (a .table-shape) }
 
 pub stage-small : {n : ℕ} {f : Four} → n ≤ 16 → Ordered n f → (f .a < 16) × (f .b < 16) × (f .c < 16) × (f .d < 16)
 stage-small h s = (omega arith, omega arith, omega arith, omega arith)

@@ -1,17 +1,21 @@
 -- A threshold tried, the bound of the worst quality raised or lowered by it, and the end of that. Assumes nothing.
 use mathlib.Core.Path.{_≡_, refl, sym, subst, ap, _∙_}
 use mathlib.Core.Bool.{Bool, true, false}
+use mathlib.Core.Logic.{_⊎_, inl, inr}
 use mathlib.Core.List.{List}
-use Prim.Native.Nat.{ℕ, suc, _≤_, _<_}
+use Prim.Native.Nat.{ℕ, suc, _/_, _≤_, _<_}
+use lib.ListN.{length}
 use native.Mathlib.Nat.{le-refl}
 use native.Mathlib.Omega.{arith}
 use Rattle.geometry.specs.declared.tetrahedron.Four.{Four}
 use Rattle.laws.specs.Laws.{entry, quality, fours-in, lawful, worst}
 use Rattle.laws.specs.Lists.{Lists}
-use Rattle.laws.specs.Check.{job, job-refusal}
+use Rattle.laws.specs.Check.{job, empty, job-refusal}
 use Rattle.laws.specs.inner.Members.{In}
 use Rattle.laws.proofs.Basics.Tests.{contradiction}
 use Rattle.laws.proofs.Order.Bytes.{fours-in-length}
+use Rattle.laws.proofs.Choice.Conditions.{accepted}
+use Rattle.laws.proofs.Choice.Empty.{empty-alone, empty-worst}
 use Rattle.fillings.specs.Marks.{Covers, marked, Reduced, Extended}
 use Rattle.fillings.specs.Tables.{Filed, Whole, Alive-from, Between, Attempted, Highest, Least-set}
 use Rattle.fillings.proofs.Parts.Boundary.{boundary}
@@ -83,12 +87,9 @@ module _ {L : Lists} {fours codes qualities : List ℕ} {m w top : ℕ} {ms : Li
   pub highest-bounds : Bounds (job L) w top (marked 2 (fours-in m fours) ms)
   highest-bounds = record { order = h .lower; small = h .small; found = λ p. (h .keeps, h .worth); top = h .reached }
 
-  -- no quality is left between them
+  -- no quality is left between them; the empty job's one filling is worth the highest there is
   pub highest-ended : {r : ℕ} → Between qualities m w top r → r ≡ 0 → Highest L fours codes qualities m w (suc w) ms
-  highest-ended b e =
-      let t = boundary-some L a in
-      let n = bounds-gap (fours-in m fours) (t .0) (t .1) (h .whole .covers) (omega arith) (λ f i. quality-small L a f) gap highest-bounds in
-      record { whole = h .whole; positive = h .positive; lower = n .order; small = n .small; keeps = h .keeps; worth = h .worth; reached = n .top }
+  highest-ended b e = go (accepted L a .some)
     where
       gap : (f : Four) → In f (fours-in m fours) → w < quality (entry (job L) f) → quality (entry (job L) f) < top → ⊥
       gap f i =
@@ -96,3 +97,14 @@ module _ {L : Lists} {fours codes qualities : List ℕ} {m w top : ℕ} {ms : Li
           subst (λ (x : ℕ). w < x → x < top → ⊥)
           (h .whole .filed .grades .each (k .number) (k .below) ∙ ap (λ (g : Four). quality (entry (job L) g)) (k .is))
           (b .none e (k .number) (subst (λ (n : ℕ). k .number < n) (fours-in-length m fours) (k .below)))
+
+      go : (empty L ≡ true) ⊎ ((4 ≤ length (job L .points)) × (4 ≤ length (L .triangles) / 3)) → Highest L fours codes qualities m w (suc w) ms
+      go (inl y) =
+          let n = empty-alone L y (marked 2 (fours-in m fours) ms) (h .keeps) in
+          let v : w ≡ 1000000 = sym (h .worth) ∙ ap (worst (job L)) n ∙ empty-worst L y in
+          let s = h .small in
+          record { whole = h .whole; positive = h .positive; lower = omega arith; small = omega arith; keeps = h .keeps; worth = h .worth; reached = λ F l. let u = h .reached F l in omega arith }
+      go (inr s) =
+          let t = boundary-some L (s .1) in
+          let n = bounds-gap (fours-in m fours) (t .0) (t .1) (h .whole .covers) (omega arith) (λ f i. quality-small L a f) gap highest-bounds in
+          record { whole = h .whole; positive = h .positive; lower = n .order; small = n .small; keeps = h .keeps; worth = h .worth; reached = n .top }

@@ -1,14 +1,14 @@
 -- A threshold's pool and marks: what is alive at it, what a try at it finds, and what it leaves out. Assumes nothing.
 use mathlib.Core.Path.{_≡_, sym, subst, ap, _∙_}
-use mathlib.Core.Bool.{true, false, cond, _&&_}
+use mathlib.Core.Bool.{true, false, cond}
 use mathlib.Core.Logic.{_⊎_, inl, inr}
 use mathlib.Core.List.{List, [], _∷_}
-use Prim.Native.Nat.{ℕ, zero, suc, _/_, _%_, _≤_, _<_}
+use Prim.Native.Nat.{ℕ, zero, suc, _/_, _≤_, _<_}
 use native.Mathlib.Nat.{le-trans}
 use native.Mathlib.Decide.{decLt}
 use native.Mathlib.Omega.{arith}
-use borrow.Author.Tests.{leb-true, ltb-false}
-use lib.Dec.{leb, eqb}
+use borrow.Author.Tests.{ltb-false}
+use lib.Dec.{leb}
 use lib.ListN.{length, getD}
 use lib.IntN.{ℤ, pos, negsuc}
 use Rattle.geometry.specs.declared.tetrahedron.Four.{Four}
@@ -16,7 +16,7 @@ use Rattle.laws.specs.Laws.{Job, Tri, entry, quality, place, fours-in, lawful, 
 use Rattle.laws.specs.Lists.{Lists}
 use Rattle.laws.specs.Check.{job, job-refusal, tris-in, entry-bad, any-entry-bad}
 use Rattle.laws.specs.inner.Members.{here}
-use Rattle.laws.proofs.Basics.Tests.{and-true, or-false}
+use Rattle.laws.proofs.Basics.Tests.{or-false}
 use Rattle.laws.proofs.Faces.Triangles.{Has, same-refl}
 use Rattle.laws.proofs.Choice.Conditions.{accepted}
 use Rattle.laws.proofs.Order.Bytes.{fours-in-length}
@@ -29,7 +29,7 @@ use Rattle.fillings.proofs.Parts.Extensions.{extension-start, extension-start-b
 use Rattle.fillings.proofs.ByNumber.Start.{started-fit, started-from, started-into}
 use Rattle.raising.proofs.Raising.WorstByNumber.{worst-by-number}
 
--- ---- number 12 and number 5: qualities are millionths at most, and there is a boundary triangle
+-- ---- number 12: qualities are millionths at most; and a boundary of 4 triangles has one
 quality-good : (v : ℤ) → entry-bad v ≡ false → quality v ≤ 1000000
 unfolding entry-bad quality
 quality-good (pos n) h = ltb-false 1000000 n h
@@ -46,19 +46,14 @@ module _ (L : Lists) (a : job-refusal L ≡ 0) where
   unfolding entry job
   quality-small f = getD-good (L .table) (place (length (job L .points)) f) (accepted L a .entries)
 
-  pub triangles-many : 4 ≤ length (L .triangles) / 3
-  triangles-many =
-      let n = length (L .triangles) / 3 in
-      leb-true 4 n (and-true (leb 4 n) (leb n 560) (and-true (eqb (length (L .triangles) % 3) 0) (leb 4 n && leb n 560) (accepted L a .tri-shape) .1) .0)
-
 some-in : (n : ℕ) (bs : List ℕ) → 4 ≤ n → (t : Tri) × Has t (tris-in n bs)
 unfolding tris-in
 some-in zero bs h = absurd (omega arith)
 some-in (suc n) bs h = (_, here (same-refl _))
 
-pub boundary-some : (L : Lists) → job-refusal L ≡ 0 → (t : Tri) × Has t (job L .triangles)
+pub boundary-some : (L : Lists) → 4 ≤ length (L .triangles) / 3 → (t : Tri) × Has t (job L .triangles)
 unfolding job
-boundary-some L a = some-in (length (L .triangles) / 3) (L .triangles) (triangles-many L a)
+boundary-some L h = some-in (length (L .triangles) / 3) (L .triangles) h
 
 -- ---- what is filed is a context, and marks by quality are the start
 pub filed-context :

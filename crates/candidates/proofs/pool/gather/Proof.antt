@@ -47,7 +47,7 @@ loop-holds c =
     let a = s .args in
     let e = sym (points-count (a .points .now)) in (
       e,
-      rw e (staged-start (length (points-in (a .points .now))) (points-and-table s .least)),
+      rw e (staged-start (length (points-in (a .points .now))) (s .pre .8)),
       gathering-start (job (lists s)) (a .q) (s .pre .5) (s .pre .6) (s .pre .7),
       first-place (length (a .points .now) / 3),
     )

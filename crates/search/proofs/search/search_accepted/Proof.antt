@@ -47,8 +47,9 @@ slice-aggregate-gather-2 c = sym (flags (c .before .before .before) .1)
 
 gather-requires : tie.Need-gather-requires
 gather-requires c κs =
+    let p = c .before .before .before .before .before .before .before .before .before .before .before .before .before .before .before .before .before .pre in
     let f = flags (c .before .before .before .before .before .before) in
-    (c .before .before .before .before .before .before .before .before .before .before .before .before .before .before .before .before .before .pre .0, c .before .before .before .before .before .before .before .before .before .before .before .fill-rows .ensures, f .0, f .1, omega arith, length-replicate {A = ℕ} 7280 0, length-replicate {A = ℕ} 7280 0, length-replicate {A = ℕ} 1820 0)
+    (p .0, c .before .before .before .before .before .before .before .before .before .before .before .fill-rows .ensures, f .0, f .1, omega arith, length-replicate {A = ℕ} 7280 0, length-replicate {A = ℕ} 7280 0, length-replicate {A = ℕ} 1820 0, p .2)
 
 search-candidates-requires : tie.Need-search-candidates-requires
 search-candidates-requires c κs =

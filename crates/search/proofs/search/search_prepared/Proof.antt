@@ -1,9 +1,13 @@
 -- `search::search::search_prepared` meets its contract: tried at the threshold, then finished. Assumes nothing.
+use mathlib.Core.Path.{sym, subst}
 use borrow.Author.Tests.{not-true, not-false}
 use Rattle.laws.specs.Laws.{fours-in}
 use Rattle.laws.specs.Lists.{job-lists}
+use Rattle.laws.specs.Check.{job}
 use Rattle.fillings.specs.Marks.{marked}
 use Rattle.thresholds.proofs.Beginning.{new-sized}
+use Rattle.search.specs.inner.Threshold.{Searched-from}
+use Rattle.search.specs.declared.search.Found.{Found}
 use Rattle.search.proofs.FromThreshold.{attempt-highest, attempt-under, from-found, from-none}
 use Rattle.search.proofs.search.search_prepared.Statement.{statement}
 use Rattle.search.proofs.search.search_prepared.Tie as tie
@@ -11,12 +15,17 @@ use Rattle.search.proofs.search.search_prepared.Tie as tie
 try-threshold-requires : tie.Need-try-threshold-requires
 try-threshold-requires c κs = let p = c .before .before .before .before .before .before .before .before .before .before .pre in (p .0, p .2, p .3, p .1, new-sized)
 
+refused-requires : tie.Need-refused-requires
+refused-requires c κs = tt
+
 returns : tie.Need-returns
 returns c =
-    let x = c .before .before .before .before .before .before .before .before .before .before .before .before .before .args in
-    let t = c .before .before .try-threshold in
-    from-none {low = x .low} (x .answer .now)
-    (attempt-under {L = job-lists (x .points .now) (x .triangles .now) (x .kept .now) (x .inner .now) (x .table .now)} {q = x .low} {fours = x .fours .now} {codes = x .codes .now} {qualities = x .qualities .now} {m = x .m} (not-true (t .result .found) (c .if1 .taken)) (t .ensures .0))
+    let x = c .before .before .before .before .before .before .before .before .before .before .before .before .before .before .args in
+    let t = c .before .before .before .try-threshold in
+    let l = job-lists (x .points .now) (x .triangles .now) (x .kept .now) (x .inner .now) (x .table .now) in
+    subst (λ (r : Found). Searched-from (job l) (x .low) r (x .answer .now) (x .answer .now)) (sym (c .refused .ensures))
+    (from-none {low = x .low} (x .answer .now)
+    (attempt-under {L = l} {q = x .low} {fours = x .fours .now} {codes = x .codes .now} {qualities = x .qualities .now} {m = x .m} (not-true (t .result .found) (c .before .if1 .taken)) (t .ensures .0)))
 
 finish-requires : tie.Need-finish-requires
 finish-requires c κs =
@@ -41,6 +50,7 @@ search-prepared-spec =
     tie.close
     (tie.spec
     try-threshold-requires
+    refused-requires
     returns
     finish-requires
     same-length
