@@ -5,7 +5,7 @@ use Rattle.geometry.specs.Range.{far, any-far}
 use Rattle.shape.specs.Measure.{measure-refusal, magnitude, D-of, square, S-of, double, shape-number, clamped, millionths, is-flat}
 use Rattle.laws.specs.Laws.{tri, choose, before-first, place, entry, quality, rising, four-before, law-1, law-2, none-inside, law-3, faces, all-faces, same-tri, reversed, has, once, all-in, matched, law-4, apart-all, law-5, corner-of, is-corner, corners-from, law-6, holds-edge, all-kept, law-7, all-faced, law-8, broken, lawful, worst-from, worst, list-before, fours-in}
 use Rattle.laws.specs.Fours.{from, rest, with-each, all-fours, same-four}
-use Rattle.laws.specs.Check.{place-taken, two-alike, tris-in, edges-in, tri-bad, any-tri-bad, tri-taken, tris-alike, directed, how-often, unmatched, edge-bad, entry-bad, any-entry-bad, unmeasured, over, solid-unmeasured, job, refusal, first-refusal, refusals, job-refusal}
+use Rattle.laws.specs.Check.{place-taken, two-alike, tris-in, edges-in, tri-bad, any-tri-bad, tri-taken, tris-alike, directed, how-often, unmatched, edge-bad, entry-bad, any-entry-bad, unmeasured, over, solid-unmeasured, job, refusal, first-refusal, refusals, empty, job-refusal}
 use Rattle.judge.specs.Judge.{judged}
 use Rattle.text.specs.Text.{in-first, new-or-in-first, lines-of, fields-of, ends-well, all-digits, well-begun, number-form, value-from, value, coordinate-form, minus as negative, coordinate, letter-in, line-in, text-lines, four-in, value-in, all-fields, line-form, kind, lines-form, text-form, only, fields-with, has-four, Q-bad, Q-entry, text-table, lists, read}
 use Rattle.text.specs.Print.{digits, decimal, fields-out, line-out, count-in, boundary-faces, H-fields, H-line, H-lines, filling-out, refusal-out}
@@ -29,7 +29,7 @@ unfolding measure-refusal magnitude D-of square S-of double shape-number clamped
 measuring = 0
 
 unfoldable pub checks : ℕ
-unfolding place-taken two-alike tris-in edges-in tri-bad any-tri-bad tri-taken tris-alike directed how-often unmatched edge-bad entry-bad any-entry-bad unmeasured over solid-unmeasured job refusal first-refusal refusals job-refusal
+unfolding place-taken two-alike tris-in edges-in tri-bad any-tri-bad tri-taken tris-alike directed how-often unmatched edge-bad entry-bad any-entry-bad unmeasured over solid-unmeasured job refusal first-refusal refusals empty job-refusal
 checks = 0
 
 unfoldable pub table : ℕ

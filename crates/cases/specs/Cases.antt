@@ -173,7 +173,11 @@ inner-point =
 abbrev pub around : List Tetrahedron
 around = tetrahedron 0 1 2 4 16 1 1 ∷ tetrahedron 0 1 3 4 16 1 1 ∷ tetrahedron 0 2 3 4 16 1 1 ∷ tetrahedron 1 2 3 4 16 1 1 ∷ []
 
--- ---- THE TABLE, in document 01's order; then case B with an inner triangle (document 02), of which 23 comes before 12
+-- ---- the empty job (document 02)
+abbrev pub empty-job : Lists
+empty-job = record { points = []; triangles = []; kept = []; inner = []; table = [] }
+
+-- ---- THE TABLE, in document 01's order; then document 02: case B with an inner triangle, of which 23 comes before 12; the empty job, and a text of a Q line alone
 abbrev pub cases : List Case
 cases =
     measures points-A 1 9 592592
@@ -192,6 +196,10 @@ cases =
     (characters "F,2,400000\nH,0,1,2,3,500000,3\nH,0,1,2,4,400000,3\n")
     ∷ breaks B-inner (0 ∷ 1 ∷ 3 ∷ 4 ∷ 0 ∷ 2 ∷ 3 ∷ 4 ∷ 1 ∷ 2 ∷ 3 ∷ 4 ∷ []) 8
     ∷ given (B-with [] (0 ∷ 1 ∷ 1 ∷ []) (pos 1000001) (pos 400000) (pos 450000)) (refused 23)
+    ∷ written [] empty-job (found [] 1000000) (characters "F,0,1000000\n")
+    ∷ breaks empty-job (0 ∷ 1 ∷ 2 ∷ 3 ∷ []) 1
+    ∷ breaks empty-job (0 ∷ []) 1
+    ∷ written (characters "Q,0,1,2,3,0\n") (record { points = []; triangles = []; kept = []; inner = []; table = negsuc 0 ∷ negsuc 0 ∷ [] }) (refused 2) (characters "R,2\n")
     ∷ []
 
 -- THE STATEMENT: what each row says holds

@@ -11,13 +11,13 @@ use Rattle.geometry.specs.Range.{any-far}
 use Rattle.geometry.specs.Space.{points-in}
 use Rattle.laws.specs.Laws.{choose}
 use Rattle.laws.specs.Lists.{Lists, with-table}
-use Rattle.laws.specs.Check.{two-alike, any-tri-bad, tris-alike, directed, unmatched, edge-bad, any-entry-bad, solid-unmeasured, job, job-refusal}
+use Rattle.laws.specs.Check.{two-alike, any-tri-bad, tris-alike, directed, unmatched, edge-bad, any-entry-bad, solid-unmeasured, job, first-refusal, refusals, job-refusal}
 use Rattle.laws.specs.inner.Listed.{triangles-in, kept-in}
 use Rattle.laws.specs.inner.Unmeasured.{Tabled}
 use Rattle.laws.proofs.Basics.Tests.{and-true}
 use Rattle.laws.proofs.Checker.Points.{points-count}
 use Rattle.laws.proofs.Checker.Refusal.{Few, points-few}
-use Rattle.laws.proofs.Checker.Chain.{Chain, at-2, at-3, at-4, at-5, at-6, at-7, at-8, at-9, at-10, at-22, at-23, at-11, at-12, at-13, from-3, from-4, from-5, from-6, from-7, from-8, from-9, from-10, from-22, from-23, from-11, from-12, from-13}
+use Rattle.laws.proofs.Checker.Chain.{Chain, at-empty, at-2, at-3, at-4, at-5, at-6, at-7, at-8, at-9, at-10, at-22, at-23, at-11, at-12, at-13, from-3, from-4, from-5, from-6, from-7, from-8, from-9, from-10, from-22, from-23, from-11, from-12, from-13}
 use Rattle.places.specs.Places.{has-place}
 
 -- ---- one link of the chain of numbers
@@ -98,8 +98,12 @@ module _ (l : Lists) where
   low-4 = low (at-4 l) low-5 (omega arith) (omega arith)
 
   module _ (k : ℕ) (e : job-refusal l ≡ k) where
+    -- the empty job has no number
+    to-2 : 0 < k → first-refusal (refusals l) ≡ k
+    to-2 h = passed (at-empty l) e (λ q. omega arith) .1
+
     to-3 : 2 < k → from-3 l ≡ k
-    to-3 h = passed (at-2 l) e (λ q. omega arith) .1
+    to-3 h = passed (at-2 l) (to-2 (omega arith)) (λ q. omega arith) .1
 
     to-4 : 3 < k → from-4 l ≡ k
     to-4 h = passed (at-3 l) (to-3 (omega arith)) (λ q. omega arith) .1
@@ -138,7 +142,7 @@ module _ (l : Lists) where
     to-13 h m = passed (at-12 l) (to-12 (omega arith) m) (λ q. omega arith) .1
 
     pub points-fit : 2 < k → Few (l .points)
-    points-fit h = points-few (l .points) (not-false _ (passed (at-2 l) e (λ q. omega arith) .0))
+    points-fit h = points-few (l .points) (not-false _ (passed (at-2 l) (to-2 (omega arith)) (λ q. omega arith) .0))
 
   -- ---- the test of each number that has a place
   pub fault-3 : job-refusal l ≡ 3 → any-far (l .points) ≡ true
@@ -182,7 +186,7 @@ module _ (l : Lists) where
   pub four-points : job-refusal l ≡ 13 → 4 ≤ length (l .points) / 3
   four-points e =
       let n = points-count (l .points) in
-      let h = not-false _ (passed (at-2 l) e (λ q. omega arith) .0) in
+      let h = not-false _ (passed (at-2 l) (to-2 13 e (omega arith)) (λ q. omega arith) .0) in
       let p = and-true (eqb (length (l .points) % 3) 0) (leb 4 (length (points-in (l .points))) && leb (length (points-in (l .points))) 16) h in
       let q = and-true (leb 4 (length (points-in (l .points)))) (leb (length (points-in (l .points))) 16) (p .1) in
       let f = leb-true 4 (length (points-in (l .points))) (q .0) in omega arith

@@ -12,7 +12,6 @@ use lib.IntN.{ℤ, pos, negsuc}
 use Rattle.geometry.specs.Space.{V3, points-in}
 use Rattle.shape.specs.Measure.{millionths, is-flat, shape-of, four-entry}
 use Rattle.geometry.specs.declared.tetrahedron.Four.{Four}
-use Rattle.laws.specs.Laws.{choose}
 use Rattle.laws.specs.Check.{job-refusal}
 use Rattle.laws.specs.Fours.{all-fours}
 use Rattle.laws.specs.Lists.{job-lists}
@@ -22,12 +21,12 @@ use Rattle.laws.proofs.Basics.Lists.{Each, none, more}
 use Rattle.laws.proofs.Order.AllFours.{all-fours-sorted, well-formed-in-all}
 use Rattle.laws.proofs.Order.Sorted.{Well-formed}
 use Rattle.laws.proofs.Order.TablePlace.{fours-most}
-use Rattle.laws.proofs.Order.Binomials.{choose-monotone}
 use Rattle.bench_rules.proofs.Mesh.Millionths.{millionths-between}
 use Rattle.text.specs.Text.{letter-P, letter-T, letter-E, letter-K, letter-Q, text-limit, ends-well, Line, text-lines, line-form, kind, lines-form, text-form, coordinate, value, four-in, only, fields-with, has-four, Q-bad, Q-entry, text-table, lists, text-lists, read, read-refusal, text-refusal}
 use Rattle.text.specs.inner.Runs.{is-kind}
 use Rattle.text.proofs.Tables.FourPlaces.{fours-count, well-at}
 use Rattle.text.proofs.Tables.RisingLines.{line-rises}
+use Rattle.text.proofs.Tables.BadTables.{table-good}
 use Rattle.measuring.specs.Filling.{filled, measured-table}
 use Rattle.q_lines.specs.Completion.{missing-lines, missing-of, early, completion-refusal, completed-as, completed, measured-lists, Completed-reads, Completed-short}
 use Rattle.q_lines.proofs.Accepted.{Threes, Accepted, accepted}
@@ -89,15 +88,7 @@ placed n (more {x = l} {xs = ls} k ks) p =
     let b = or-false (has-four (four-in l) ls) (Q-bad n ls) (a .1) in
     more (well-formed-in-all n (four-in l) (record { up = line-rises l k; below = leb-false n (four-in l .d) (a .0) })) (placed n ks (b .1))
 
--- ---- a table of the right length has no bad Q
-table-good : (n : ℕ) (qs : List Line) → 4 ≤ n → length (text-table n qs) ≡ choose n 4 → Q-bad n qs ≡ false
-unfolding text-table
-table-good n qs h e = go (Q-bad n qs) refl e
-  where
-    go : (t : Bool) → Q-bad n qs ≡ t → length (cond t [] (map (Q-entry qs) (all-fours n))) ≡ choose n 4 → Q-bad n qs ≡ false
-    go false p e = p
-    go true p e = let c : choose 4 4 ≡ 1 = unfold choose in refl in absurd (omega (arith, choose-monotone 4 n 4 h))
-
+-- ---- a text without a bad Q
 table-is : (n : ℕ) (qs : List Line) → Q-bad n qs ≡ false → text-table n qs ≡ map (Q-entry qs) (all-fours n)
 unfolding text-table
 table-is n qs p = rw p refl
@@ -150,7 +141,7 @@ module _ (bs : List ℕ) (w : Whole-text bs) where
   the-table = let h = few in let m : min count 16 ≡ count = omega arith in ap (λ (n : ℕ). text-table n Q-lines) m
 
   good : Q-bad count Q-lines ≡ false
-  good = table-good count Q-lines (w .limits .least) (ap length (sym the-table) ∙ w .limits .tabled .full)
+  good = table-good count Q-lines (ap length (sym the-table) ∙ w .limits .tabled .full)
 
   table-entries : text-lists bs .table ≡ map (Q-entry Q-lines) (all-fours count)
   table-entries = the-table ∙ table-is count Q-lines good

@@ -16,7 +16,7 @@ use Rattle.laws.specs.Lists.{Lists, job-lists}
 use Rattle.laws.proofs.Basics.Tests.{contradiction}
 use Rattle.laws.proofs.Checker.Points.{points-count}
 use Rattle.laws.proofs.Order.TablePlace.{fours-most}
-use Rattle.text.specs.Text.{letter-P, letter-T, letter-E, letter-K, letter-Q, Line, text-lines, ends-well, lines-form, text-form, text-limit, value, coordinate, fields-with, only, Q-bad, Q-entry, text-table, lists}
+use Rattle.text.specs.Text.{letter-P, letter-T, letter-E, letter-K, letter-Q, Line, text-lines, ends-well, lines-form, text-form, text-limit, value, coordinate, fields-with, only, Q-bad, Q-entry, bad-table, text-table, lists}
 use Rattle.text.specs.Clipping.{as-byte, clipped, Clipping-does}
 use Rattle.text.specs.inner.Runs.{run, after, fields-in, byte-value}
 use Rattle.text.proofs.Lines.TextLines.{lines-left, lines-over}
@@ -27,7 +27,7 @@ use Rattle.reading.specs.declared.run.Run.{Run}
 use Rattle.reading.specs.declared.table.Entries.{Entries}
 use Rattle.reading.specs.declared.read.Read.{Read}
 use Rattle.reading.specs.inner.Runs.{Listed}
-use Rattle.reading.specs.inner.Tables.{Table-read}
+use Rattle.reading.specs.inner.Tables.{Table-laid}
 use Rattle.reading.specs.Reading.{handed, Job-read}
 
 -- ---- lists of bytes
@@ -57,7 +57,7 @@ module _ (k text-at : ℕ) (text old new : List ℕ) (r : Run) (listed : Listed 
 -- ---- the runs
 module _ (text : List ℕ) (p t e k : Run) (q : Entries) (n : ℕ) (ps₀ ps : List ℤ) (ts₀ ts es₀ es ks₀ ks : List ℕ) (qs : List ℤ)
     (P : Listed coordinate 0 text 0 ps₀ ps p) (T : Listed byte-value 1 text (p .at) ts₀ ts t) (E : Listed byte-value 2 text (t .at) es₀ es e) (K : Listed byte-value 3 text (e .at) ks₀ ks k)
-    (Q : Table-read n text (k .at) qs q)
+    (Q : Table-laid n text (k .at) qs q)
     (short : length text ≤ text-limit) (ended : ends-well text ≡ true) where
   abbrev ls : List Line
   ls = text-lines text
@@ -75,7 +75,7 @@ module _ (text : List ℕ) (p t e k : Run) (q : Entries) (n : ℕ) (ps₀ ps : L
   at-Q = K .rest ∙ ap (after 3) at-K
 
   at-end : text-lines (drop (q .at) text) ≡ after 4 (behind-K ls)
-  at-end = Q .rest ∙ ap (after 4) at-Q
+  at-end = Q .read .rest ∙ ap (after 4) at-Q
 
   form-left : text-form text ≡ empty (text-lines (drop (q .at) text))
   unfolding text-form
@@ -93,7 +93,7 @@ module _ (text : List ℕ) (p t e k : Run) (q : Entries) (n : ℕ) (ps₀ ps : L
       some [] l = absurd (omega arith)
       some (j ∷ js) l = refl
 
-  module _ (over : length text ≤ q .at) (lp : length ps₀ ≡ 51) (lt : length ts₀ ≡ 1683) (le : length es₀ ≡ 242) (lk : length ks₀ ≡ 1683) (en : n ≡ min (p .count / 3) 16) (m : ℕ) (em : m ≡ cond (q .good) (choose n 4) 0) where
+  module _ (over : length text ≤ q .at) (lp : length ps₀ ≡ 51) (lt : length ts₀ ≡ 1683) (le : length es₀ ≡ 242) (lk : length ks₀ ≡ 1683) (en : n ≡ min (p .count / 3) 16) (m : ℕ) (em : m ≡ cond (q .good) (choose n 4) 2) where
     nothing-left : after 4 (behind-K ls) ≡ []
     nothing-left = sym at-end ∙ lines-over text (q .at) over
 
@@ -133,15 +133,16 @@ module _ (text : List ℕ) (p t e k : Run) (q : Entries) (n : ℕ) (ps₀ ps : L
     table-by : (g : Bool) → q .good ≡ g → take m qs ≡ text-table n (only letter-Q ls)
     unfolding text-table
     table-by true g =
-        ap (λ (c : ℕ). take c qs) (em ∙ ap (λ (b : Bool). cond b (choose n 4) 0) g)
-        ∙ Q .entries g
+        ap (λ (c : ℕ). take c qs) (em ∙ ap (λ (b : Bool). cond b (choose n 4) 2) g)
+        ∙ Q .read .entries g
         ∙ ap (λ (js : List Line). map (Q-entry js) (all-fours n)) Q-are
-        ∙ sym (ap (λ (b : Bool). cond b [] (map (Q-entry (only letter-Q ls)) (all-fours n)))
-        (ap (Q-bad n) (sym Q-are) ∙ not-true (Q-bad n (run 4 (text-lines (drop (k .at) text)))) (sym (Q .right) ∙ g)))
+        ∙ sym (ap (λ (b : Bool). cond b bad-table (map (Q-entry (only letter-Q ls)) (all-fours n)))
+        (ap (Q-bad n) (sym Q-are) ∙ not-true (Q-bad n (run 4 (text-lines (drop (k .at) text)))) (sym (Q .read .right) ∙ g)))
     table-by false g =
-        ap (λ (c : ℕ). take c qs) (em ∙ ap (λ (b : Bool). cond b (choose n 4) 0) g)
-        ∙ sym (ap (λ (b : Bool). cond b [] (map (Q-entry (only letter-Q ls)) (all-fours n)))
-        (ap (Q-bad n) (sym Q-are) ∙ not-false (Q-bad n (run 4 (text-lines (drop (k .at) text)))) (sym (Q .right) ∙ g)))
+        ap (λ (c : ℕ). take c qs) (em ∙ ap (λ (b : Bool). cond b (choose n 4) 2) g)
+        ∙ ap (take 2) (Q .bad g)
+        ∙ sym (ap (λ (b : Bool). cond b bad-table (map (Q-entry (only letter-Q ls)) (all-fours n)))
+        (ap (Q-bad n) (sym Q-are) ∙ not-false (Q-bad n (run 4 (text-lines (drop (k .at) text)))) (sym (Q .read .right) ∙ g)))
 
     abbrev answer : Read
     answer = record { ok = true; points = p .count; triangles = t .count; kept = e .count; inner = k .count; table = m }
@@ -162,8 +163,8 @@ module _ (text : List ℕ) (p t e k : Run) (q : Entries) (n : ℕ) (ps₀ ps : L
     table-room : (g : Bool) → q .good ≡ g → m ≤ 1820
     table-room true g =
         let f = fours-most n (omega arith) in
-        let d = em ∙ ap (λ (b : Bool). cond b (choose n 4) 0) g in omega arith
-    table-room false g = let d = em ∙ ap (λ (b : Bool). cond b (choose n 4) 0) g in omega arith
+        let d = em ∙ ap (λ (b : Bool). cond b (choose n 4) 2) g in omega arith
+    table-room false g = let d = em ∙ ap (λ (b : Bool). cond b (choose n 4) 2) g in omega arith
 
     pub job-read : Job-read text answer arrays
     unfolding Clipping-does

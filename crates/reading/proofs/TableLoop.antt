@@ -14,7 +14,7 @@ use Rattle.geometry.specs.declared.tetrahedron.Four.{Four}
 use Rattle.laws.specs.Laws.{place, choose}
 use Rattle.laws.specs.Check.{unmeasured}
 use Rattle.laws.specs.Fours.{all-fours}
-use Rattle.laws.proofs.Basics.Tests.{and-true}
+use Rattle.laws.proofs.Basics.Tests.{contradiction, and-true}
 use Rattle.laws.proofs.Order.Sorted.{Well-formed}
 use Rattle.laws.proofs.Order.Places.{place-below}
 use Rattle.laws.proofs.Order.TablePlace.{fours-most, getD-inside}
@@ -27,7 +27,8 @@ use Rattle.text.proofs.Tables.TableStep.{taken-is, new-entries}
 use Rattle.text.proofs.Tables.FourPlaces.{fours-count, well-at, place-at}
 use Rattle.reading.specs.declared.run.Next.{Next}
 use Rattle.reading.specs.inner.Runs.{Line-at}
-use Rattle.reading.specs.inner.Tables.{Table-read}
+use Rattle.reading.specs.declared.table.Entries.{Entries}
+use Rattle.reading.specs.inner.Tables.{Table-read, Table-laid}
 use Rattle.reading.proofs.QNumbers.{four-is, value-is}
 
 -- ---- the loop
@@ -126,3 +127,15 @@ module _ {n : ℕ} {text : List ℕ} {from : ℕ} {table : List ℤ} {at : ℕ} 
           right = s .right ∙ ap (λ (ls : List Line). not (Q-bad n ls)) read-all;
           entries = λ g. full-table g ∙ ap (λ (ls : List Line). map (Q-entry ls) (all-fours n)) read-all;
         }
+
+-- ---- the table that is handed on: as it was read, or cleared where a Q was bad
+module _ {n : ℕ} {text : List ℕ} {from : ℕ} {table : List ℤ} {r : Entries} (t : Table-read n text from table r) where
+  pub laid-good : r .good ≡ true → Table-laid n text from table r
+  laid-good g = record { read = t; bad = λ b. contradiction g b }
+
+  pub laid-bad : r .good ≡ false → {new : List ℤ} → new ≡ blank → Table-laid n text from new r
+  laid-bad b e =
+      record {
+        read = record { stop = t .stop; rest = t .rest; right = t .right; entries = λ g. contradiction g b };
+        bad = λ _. e;
+      }

@@ -2,9 +2,8 @@
 // Assumes nothing.
 use crate::run::read_numbers;
 use crate::run::read_points;
-use crate::table::clear;
 use crate::table::fours_of;
-use crate::table::read_table;
+use crate::table::lay_table;
 ghost use mathlib.Core.Path.{_≡_};
 ghost use mathlib.Core.Bool.{cond};
 ghost use Prim.Native.Nat.{_/_, _≤_, min};
@@ -54,12 +53,12 @@ fn tabled(count: usize) -> usize
     if 16 < n { 16 } else { n }
 }
 
-// With a bad Q there is no table: its length, 0, is wrong, so that the checker gives 11 in its place.
+// With a bad Q the table's length is 2, which is right for no count of points, so that the checker gives 11 in its place. 0 would be right for none, and the job would pass as empty.
 fn entries(good: bool, n: usize) -> usize
     requires { ⌜ n ≤ 16 ⌝ }
-    ensures { λ r. ⌜ r ≡ cond good (choose n 4) 0 ⌝ }
+    ensures { λ r. ⌜ r ≡ cond good (choose n 4) 2 ⌝ }
 {
-    if good { fours_of(n) } else { 0 }
+    if good { fours_of(n) } else { 2 }
 }
 
 // The lists of the text stand first in the buffers; what stands behind them, or after a text not of the form, is left free.
@@ -82,8 +81,7 @@ pub fn read_job(
     let e = read_numbers(text, t.at, 2, 2, kept);
     let k = read_numbers(text, e.at, 3, 3, inner);
     let n = tabled(p.count);
-    clear(table);
-    let q = read_table(text, k.at, n, table);
+    let q = lay_table(text, k.at, n, table);
     if q.at < text.len() {
         return unread();
     }

@@ -10,7 +10,7 @@ ghost use lib.ListN.{length};
 ghost use Rattle.laws.specs.Laws.{rising, choose};
 ghost use Rattle.text.specs.inner.Runs.{Line-start};
 ghost use Rattle.text.specs.inner.Tables.{whole, four-of, blank, Entered};
-ghost use Rattle.reading.specs.inner.Tables.{Table-read};
+ghost use Rattle.reading.specs.inner.Tables.{Table-read, Table-laid};
 
 // Where the Q lines end, and whether each was for a present four and the first for it.
 pub struct Entries {
@@ -19,7 +19,7 @@ pub struct Entries {
 }
 
 // Every entry becomes unmeasured.
-pub(crate) fn clear(table: &mut [i32])
+fn clear(table: &mut [i32])
     requires { ⌜ length (now table) ≡ 1820 ⌝ }
     ensures { λ r. ⌜ now (table .exit) ≡ blank ⌝ }
 {
@@ -90,7 +90,7 @@ fn enter(table: &mut [i32], n: usize, values: [i32; 5]) -> bool
 }
 
 // The Q lines from `from` on.
-pub(crate) fn read_table(text: &[u8], from: usize, n: usize, table: &mut [i32]) -> Entries
+fn read_table(text: &[u8], from: usize, n: usize, table: &mut [i32]) -> Entries
     requires { ⌜ Line-start (now text) from × (n ≤ 16) × (now table ≡ blank) ⌝ }
     ensures { λ r. ⌜ Table-read n (now (text .entry)) from (now (table .exit)) r ⌝ }
 {
@@ -105,4 +105,18 @@ pub(crate) fn read_table(text: &[u8], from: usize, n: usize, table: &mut [i32]) 
         good = good & enter(table, n, values);
         at = l.next;
     }
+}
+
+// The table of the Q lines from `from` on; with a bad one among them every entry is unmeasured.
+pub(crate) fn lay_table(text: &[u8], from: usize, n: usize, table: &mut [i32]) -> Entries
+    requires { ⌜ Line-start (now text) from × (n ≤ 16) × (length (now table) ≡ 1820) ⌝ }
+    ensures { λ r. ⌜ Table-laid n (now (text .entry)) from (now (table .exit)) r ⌝ }
+{
+    clear(table);
+    let q = read_table(text, from, n, table);
+    if q.good {
+        return q;
+    }
+    clear(table);
+    q
 }

@@ -171,9 +171,14 @@ unfoldable pub Q-entry : (Q-lines : List Line) → Four → ℤ
 Q-entry [] f = negsuc 0
 Q-entry (l ∷ ls) f = cond (same-four f (four-in l)) (pos (value-in l)) (Q-entry ls f)
 
--- An entry for each four in order. With a bad Q there is no table: then its length, 0, is wrong, so that 11 is given in its place among the checker's numbers.
+-- What a bad Q hands on: two entries, a length that is right for no count of points (C(n,4) is 0, 1, 5, 15, ..), so that 11 is given in its place among the checker's numbers.
+-- Not none: that is right where there are no points, and a text of Q lines alone would pass as the empty job.
+abbrev pub bad-table : List ℤ
+bad-table = negsuc 0 ∷ negsuc 0 ∷ []
+
+-- an entry for each four in order
 unfoldable pub text-table : (n : ℕ) → (Q-lines : List Line) → List ℤ
-text-table n ls = cond (Q-bad n ls) [] (map (Q-entry ls) (all-fours n))
+text-table n ls = cond (Q-bad n ls) bad-table (map (Q-entry ls) (all-fours n))
 
 -- a table is laid out for up to 16 points: more are refused by 2
 unfoldable pub lists : List Line → Lists

@@ -1,44 +1,24 @@
 -- Lists cut to one more than their limits, with numbers as bytes, are refused as before; where they are not refused, nothing was changed. Assumes nothing.
 use mathlib.Core.Path.{_≡_, refl, sym, ap, subst, _∙_}
-use mathlib.Core.Bool.{Bool, true, false, _&&_, not, cond}
+use mathlib.Core.Bool.{true, false, _&&_, not}
 use mathlib.Core.List.{List, map}
-use Prim.Native.Nat.{ℕ, suc, _*_, _/_, _%_, _≤_}
+use Prim.Native.Nat.{ℕ, _*_, _/_, _%_, _≤_}
 use native.Mathlib.Omega.{arith}
 use borrow.Author.Tests.{eqb-true, leb-true, not-false}
 use lib.Dec.{leb, eqb}
 use lib.ListN.{length, take, length-map, length-take}
 use lib.Seq.{take-all}
 use lib.IntN.{ℤ}
-use Rattle.laws.specs.Check.{job-refusal, tris-in, edges-in, any-tri-bad, edge-bad, points-right}
+use Rattle.laws.specs.Check.{first-refusal, refusals, empty, job-refusal, tris-in, edges-in, any-tri-bad, edge-bad, points-right}
 use Rattle.laws.specs.Lists.{Lists, job-lists}
 use Rattle.laws.specs.inner.Listed.{triangles-right, kept-right, inner-right, triangles-in, kept-in}
 use Rattle.laws.proofs.Basics.Tests.{and-true}
-use Rattle.laws.proofs.Checker.Chain.{Chain, at-2, at-3, at-4, at-5, at-6, at-7, at-8, at-9, at-10, at-22, at-23, from-3, from-5, from-7, from-9, from-22, from-11}
+use Rattle.laws.proofs.Choice.Conditions.{empty-lists}
+use Rattle.laws.proofs.Checker.Chain.{at-empty, at-2, at-3, at-4, at-5, at-6, at-7, at-8, at-9, at-10, at-22, at-23, from-3, from-5, from-7, from-9, from-22, from-11}
 use Rattle.text.specs.Clipping.{as-byte, clipped, Clipping-does}
-use Rattle.text.proofs.Clipping.Cuts.{points-long, triangles-long, kept-long, inner-long, cut-points, cut-triangles, cut-kept, cut-inner, cut, cut-length, points-right-is}
+use Rattle.text.proofs.Clipping.Links.{Same, link-any, link, with-more}
+use Rattle.text.proofs.Clipping.Cuts.{points-long, triangles-long, kept-long, inner-long, cut-points, cut-triangles, cut-kept, cut-inner, cut-none, cut, cut-length, points-right-is}
 use Rattle.text.proofs.Clipping.AsBytes.{tris-byte, tris-same, edges-byte, edges-same}
-
--- ---- two chains of numbers that agree, and what is known where they end with 0
-record Same (a b : ℕ) (C : Type 0) : Type 0 where
-  number : a ≡ b
-  none : b ≡ 0 → C
-
-link : {C : Type 0} {a b k r s : ℕ} {t u : Bool} → Chain a t (suc k) r → Chain b u (suc k) s → t ≡ u → (u ≡ false → Same r s C) → Same a b C
-link {C} {a} {b} {k} {r} {s} {t} {u} c d e later = go u refl
-  where
-    go : (v : Bool) → u ≡ v → Same a b C
-    go true p =
-        let x : a ≡ suc k = c .is ∙ ap (λ (w : Bool). cond w (suc k) r) (e ∙ p) in
-        let y : b ≡ suc k = d .is ∙ ap (λ (w : Bool). cond w (suc k) s) p in
-        record { number = x ∙ sym y; none = λ z. absurd (omega arith) }
-    go false p =
-        let x : a ≡ r = c .is ∙ ap (λ (w : Bool). cond w (suc k) r) (e ∙ p) in
-        let y : b ≡ s = d .is ∙ ap (λ (w : Bool). cond w (suc k) s) p in
-        let q = later p in
-        record { number = x ∙ q .number ∙ sym y; none = λ z. q .none (sym y ∙ z) }
-
-with-more : {a b : ℕ} {C D : Type 0} → (C → D) → Same a b C → Same a b D
-with-more f s = record { number = s .number; none = λ z. f (s .none z) }
 
 -- ---- a list of threes that is not too long has the same bad ones as bytes; with none it is the same list
 module _ (n : ℕ) (few : n ≤ 16) (bs : List ℕ) (short : length bs ≤ 1683) (even : length bs ≡ length bs / 3 * 3) where
@@ -151,11 +131,25 @@ module _ (cs : List ℤ) (ts es ks : List ℕ) (qs : List ℤ) where
       (λ _. link (at-4 (short cs)) (at-4 (job-lists cs ts es ks qs)) refl
       (λ _. with-more (λ d. (e, d .0, d .1, d .2)) (same-triangles cs few ts es ks qs))))
 
-  same-job : Same (job-refusal (short (take 51 cs))) (job-refusal (job-lists cs ts es ks qs)) as-it-was
-  same-job =
+  same-tests : Same (first-refusal (refusals (short (take 51 cs)))) (first-refusal (refusals (job-lists cs ts es ks qs))) as-it-was
+  same-tests =
       link (at-2 (short (take 51 cs))) (at-2 (job-lists cs ts es ks qs))
       (ap not (points-right-is (take 51 cs) ∙ ap points-long (length-take 51 cs) ∙ cut-points (length cs) ∙ sym (points-right-is cs)))
       (λ p. (let f = points-few p in points-passed (take-all 51 cs (f .0)) (f .1)))
+
+  -- ---- nothing at all
+  same-empty : empty (short (take 51 cs)) ≡ empty (job-lists cs ts es ks qs)
+  unfolding empty
+  same-empty =
+      rw (length-take 51 cs, cut-length 1683 ts, cut-length 242 es, cut-length 1683 ks, cut-none 50 (length cs), cut-none 1682 (length ts), cut-none 241 (length es), cut-none 1682 (length ks)) refl
+
+  empty-uncut : empty (job-lists cs ts es ks qs) ≡ true → as-it-was
+  empty-uncut e =
+      subst (λ (l : Lists). (take 51 (l .points) ≡ l .points) × (cut 1683 (l .triangles) ≡ l .triangles) × (cut 242 (l .kept) ≡ l .kept) × (cut 1683 (l .inner) ≡ l .inner))
+      (sym (empty-lists (job-lists cs ts es ks qs) e)) (refl, refl, refl, refl)
+
+  same-job : Same (job-refusal (short (take 51 cs))) (job-refusal (job-lists cs ts es ks qs)) as-it-was
+  same-job = link-any (at-empty (short (take 51 cs))) (at-empty (job-lists cs ts es ks qs)) same-empty (λ e z. empty-uncut e) (λ _. same-tests)
 
 pub clipping-does : Clipping-does
 unfolding Clipping-does clipped job-refusal

@@ -2,9 +2,9 @@
 use mathlib.Core.Path.{_≡_, refl, sym, ap, _∙_}
 use mathlib.Core.Bool.{Bool, true, false, _&&_}
 use mathlib.Core.List.{List, map}
-use Prim.Native.Nat.{ℕ, _/_, _%_, _≤_, min}
+use Prim.Native.Nat.{ℕ, zero, suc, _/_, _%_, _≤_, min}
 use native.Mathlib.Omega.{arith}
-use borrow.Author.Tests.{lt-leb, ltb-true, ltb-false}
+use borrow.Author.Tests.{eq-eqb, ne-eqb, lt-leb, ltb-true, ltb-false}
 use lib.Dec.{leb, ltb, eqb}
 use lib.ListN.{length, take, length-map, length-take}
 use lib.IntN.{ℤ}
@@ -65,6 +65,11 @@ cut-inner m = go (ltb m 1683) refl
     go : (t : Bool) → ltb m 1683 ≡ t → inner-long (min 1683 m) ≡ inner-long m
     go true e = let h = ltb-true m 1683 e in let q : min 1683 m ≡ m = omega arith in ap inner-long q
     go false e = let h = ltb-false m 1683 e in too-many (min 1683 m) (omega arith) ∙ sym (too-many m h)
+
+-- a list that is cut is empty where the list is
+pub cut-none : (k m : ℕ) → eqb (min (suc k) m) 0 ≡ eqb m 0
+cut-none k zero = eq-eqb (min (suc k) 0) 0 (omega arith)
+cut-none k (suc m) = ne-eqb (min (suc k) (suc m)) 0 (λ e. omega arith) ∙ sym (ne-eqb (suc m) 0 (λ e. omega arith))
 
 abbrev pub cut : (limit : ℕ) → List ℕ → List ℕ
 cut k bs = map as-byte (take k bs)

@@ -11,7 +11,7 @@ fours-of-requires c κs = search needs
 
 returns : tie.Need-returns
 returns c =
-    c .fours-of .ensures ∙ ap (λ (t : Bool). cond t (choose (c .before .before .args .n) 4) 0) (sym (c .before .if1 .taken))
+    c .fours-of .ensures ∙ ap (λ (t : Bool). cond t (choose (c .before .before .args .n) 4) 2) (sym (c .before .if1 .taken))
 
 returns-2 : tie.Need-returns-2
 returns-2 c = search needs

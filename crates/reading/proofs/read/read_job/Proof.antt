@@ -53,21 +53,18 @@ read-numbers-requires-3 c κs = (c .before .read-numbers2 .ensures .stop, refl, 
 tabled-requires : tie.Need-tabled-requires
 tabled-requires c κs = search needs
 
-clear-requires : tie.Need-clear-requires
-clear-requires c κs = search needs
-
-read-table-requires : tie.Need-read-table-requires
-read-table-requires c κs = search needs
+lay-table-requires : tie.Need-lay-table-requires
+lay-table-requires c κs = search needs
 
 unread-requires-2 : tie.Need-unread-requires-2
 unread-requires-2 c κs = search needs
 
 returns-2 : tie.Need-returns-2
 returns-2 c =
-    let s = c .before .before .before .before .before .before .before .before .before .before .before .before .before .before .before .before in
-    not-read (c .before .before .before .before .before .before .before .before .before .before .before .before .before .before .before .before .before .before .before .args .text .now)
-    (lines-remain (c .before .before .before .before .before .before .before .before .before .before .before .before .before .before .before .before .before .before .before .args .text .now) (c .before .before .before .before .before .before .before .before .before .before .before .before .before .before .read-points .result) (c .before .before .before .before .before .before .before .before .before .before .before .before .read-numbers .result) (c .before .before .before .before .before .before .before .before .before .before .read-numbers2 .result) (c .before .before .before .before .before .before .before .before .read-numbers3 .result) (c .before .before .before .read-table .result) (c .before .before .before .before .before .before .before .tabled .result) _ _ _ _ _ _ _ _ _
-    (c .before .before .before .before .before .before .before .before .before .before .before .before .before .before .read-points .ensures) (c .before .before .before .before .before .before .before .before .before .before .before .before .read-numbers .ensures) (c .before .before .before .before .before .before .before .before .before .before .read-numbers2 .ensures) (c .before .before .before .before .before .before .before .before .read-numbers3 .ensures) (c .before .before .before .read-table .ensures) (short s) (ended s) (c .before .if2 .taken))
+    let s = c .before .before .before .before .before .before .before .before .before .before .before .before .before .before in
+    not-read (c .before .before .before .before .before .before .before .before .before .before .before .before .before .before .before .before .before .args .text .now)
+    (lines-remain (c .before .before .before .before .before .before .before .before .before .before .before .before .before .before .before .before .before .args .text .now) (c .before .before .before .before .before .before .before .before .before .before .before .before .read-points .result) (c .before .before .before .before .before .before .before .before .before .before .read-numbers .result) (c .before .before .before .before .before .before .before .before .read-numbers2 .result) (c .before .before .before .before .before .before .read-numbers3 .result) (c .before .before .before .lay-table .result) (c .before .before .before .before .before .tabled .result) _ _ _ _ _ _ _ _ _
+    (c .before .before .before .before .before .before .before .before .before .before .before .before .read-points .ensures) (c .before .before .before .before .before .before .before .before .before .before .read-numbers .ensures) (c .before .before .before .before .before .before .before .before .read-numbers2 .ensures) (c .before .before .before .before .before .before .read-numbers3 .ensures) (c .before .before .before .lay-table .ensures) (short s) (ended s) (c .before .if2 .taken))
     (c .unread2 .result) (c .unread2 .ensures) (record { points = _; triangles = _; kept = _; inner = _; table = _ })
 
 entries-requires : tie.Need-entries-requires
@@ -75,11 +72,11 @@ entries-requires c κs = search needs
 
 returns-3 : tie.Need-returns-3
 returns-3 c =
-    let s = c .before .before .before .before .before .before .before .before .before .before .before .before .before .before .before .before in
-    job-read (c .before .before .before .before .before .before .before .before .before .before .before .before .before .before .before .before .before .before .before .args .text .now) (c .before .before .before .before .before .before .before .before .before .before .before .before .before .before .read-points .result) (c .before .before .before .before .before .before .before .before .before .before .before .before .read-numbers .result) (c .before .before .before .before .before .before .before .before .before .before .read-numbers2 .result) (c .before .before .before .before .before .before .before .before .read-numbers3 .result) (c .before .before .before .read-table .result) (c .before .before .before .before .before .before .before .tabled .result) _ _ _ _ _ _ _ _ _
-    (c .before .before .before .before .before .before .before .before .before .before .before .before .before .before .read-points .ensures) (c .before .before .before .before .before .before .before .before .before .before .before .before .read-numbers .ensures) (c .before .before .before .before .before .before .before .before .before .before .read-numbers2 .ensures) (c .before .before .before .before .before .before .before .before .read-numbers3 .ensures) (c .before .before .before .read-table .ensures) (short s) (ended s)
-    (omega arith) (c .before .before .before .before .before .before .before .before .before .before .before .before .before .before .before .read-points-arg .given .0 .1) (c .before .before .before .before .before .before .before .before .before .before .before .before .before .read-numbers-arg .given .0 .1) (c .before .before .before .before .before .before .before .before .before .before .before .read-numbers-arg2 .given .0 .1) (c .before .before .before .before .before .before .before .before .before .read-numbers-arg3 .given .0 .1)
-    (c .before .before .before .before .before .before .before .tabled .ensures) (c .entries .result) (c .entries .ensures)
+    let s = c .before .before .before .before .before .before .before .before .before .before .before .before .before .before in
+    job-read (c .before .before .before .before .before .before .before .before .before .before .before .before .before .before .before .before .before .args .text .now) (c .before .before .before .before .before .before .before .before .before .before .before .before .read-points .result) (c .before .before .before .before .before .before .before .before .before .before .read-numbers .result) (c .before .before .before .before .before .before .before .before .read-numbers2 .result) (c .before .before .before .before .before .before .read-numbers3 .result) (c .before .before .before .lay-table .result) (c .before .before .before .before .before .tabled .result) _ _ _ _ _ _ _ _ _
+    (c .before .before .before .before .before .before .before .before .before .before .before .before .read-points .ensures) (c .before .before .before .before .before .before .before .before .before .before .read-numbers .ensures) (c .before .before .before .before .before .before .before .before .read-numbers2 .ensures) (c .before .before .before .before .before .before .read-numbers3 .ensures) (c .before .before .before .lay-table .ensures) (short s) (ended s)
+    (omega arith) (c .before .before .before .before .before .before .before .before .before .before .before .before .before .read-points-arg .given .0 .1) (c .before .before .before .before .before .before .before .before .before .before .before .read-numbers-arg .given .0 .1) (c .before .before .before .before .before .before .before .before .before .read-numbers-arg2 .given .0 .1) (c .before .before .before .before .before .before .before .read-numbers-arg3 .given .0 .1)
+    (c .before .before .before .before .before .tabled .ensures) (c .entries .result) (c .entries .ensures)
 
 pub read-job-spec : {M : Type 1} → statement M
 read-job-spec =
@@ -93,8 +90,7 @@ read-job-spec =
     read-numbers-requires-2
     read-numbers-requires-3
     tabled-requires
-    clear-requires
-    read-table-requires
+    lay-table-requires
     unread-requires-2
     returns-2
     entries-requires
