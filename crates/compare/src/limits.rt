@@ -1,11 +1,12 @@
 // The cavities of document 01 that its table of proved ones leaves out: the greatest count of points, the greatest coordinate, the smallest buffer; and the greatest
-// count of inner triangles (document 02).
+// count of inner triangles, and the empty job (document 02).
+use crate::trial::judged;
 use crate::trial::searched;
 use crate::trial::trial;
 use checker::check::check_job;
-use enumerator::fours::listed;
-use enumerator::fours::place_of;
 use enumerator::read::byte_at;
+use enumerator::tetrahedra::listed;
+use enumerator::tetrahedra::place_of;
 use lines::list::front;
 use lines::list::front_integers;
 use lines::list::put;
@@ -259,6 +260,30 @@ fn with_buffers(tally: Counts) -> Counts {
     with_buffer(&mut short, 14, 0, b"", t)
 }
 
+// The empty job: its one filling is the empty list, of worst quality 1,000,000. Any four breaks law 1, since no point is there. The buffer's length is asked for all the same.
+fn with_empty(tally: Counts) -> Counts {
+    let zero = [0i32];
+    let none = front_integers(&zero, 0);
+    let four = CORNER;
+    let mut short = [0u8; 7279];
+    let t = limit(none, b"", b"", b"", none, b"", 0, tally);
+    let t2 = judged(0, none, b"", b"", b"", none, b"", 0, 0, 1_000_000, t);
+    let t3 = judged(0, none, b"", b"", b"", none, &four, 0, 1, 0, t2);
+    searched(0, none, b"", b"", b"", none, 14, 0, b"", &mut short, t3)
+}
+
+// One entry in any of the lists, and the job is no longer the empty one.
+fn with_one_entry(tally: Counts) -> Counts {
+    let zero = [0i32];
+    let none = front_integers(&zero, 0);
+    let four = CORNER;
+    let t = limit(&zero, b"", b"", b"", none, &four, 2, tally);
+    let t2 = limit(none, b"\x00", b"", b"", none, &four, 2, t);
+    let t3 = limit(none, b"", b"\x00", b"", none, &four, 2, t2);
+    let t4 = limit(none, b"", b"", b"\x00", none, &four, 2, t3);
+    limit(none, b"", b"", b"", &zero, b"", 2, t4)
+}
+
 pub fn with_limits(tally: Counts) -> Counts {
     let t = with_ring(tally);
     let t2 = with_corner(10_000, 10_000, 0, t);
@@ -270,5 +295,7 @@ pub fn with_limits(tally: Counts) -> Counts {
     let t7 = with_inner(1683, 22, t6);
     let t8 = with_inner(1, 22, t7);
     let t9 = with_inner(1679, 22, t8);
-    with_buffers(t9)
+    let t10 = with_empty(t9);
+    let t11 = with_one_entry(t10);
+    with_buffers(t11)
 }

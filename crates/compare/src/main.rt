@@ -1,5 +1,5 @@
 // Compares the search, the judge and the checker with a plain enumerator and with the laws written anew: on the cavities of document 01 that are not proved as a
-// table, at the limit of the inner triangles, and on random jobs. How many jobs: the number on the one line of standard input, 3,600 where that is empty. Prints
+// table, at the limit of the inner triangles, on the empty job, and on random jobs. How many jobs: the number on the one line of standard input, 3,600 where that is empty. Prints
 // how many there were of each kind, and how many comparisons differ. An argument, or an input that is no number, is refused on standard error. Assumes nothing; any bytes may come.
 mod limits;
 mod trial;

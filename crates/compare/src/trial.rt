@@ -1,6 +1,6 @@
 // One job: the checker against its numbers, the search against the enumerator, the judge against the laws.
 use checker::check::check_job;
-use enumerator::checker::refusal;
+use enumerator::admission::refusal;
 use enumerator::enumerate::MOST;
 use enumerator::enumerate::ROOM;
 use enumerator::enumerate::best_filling;
@@ -46,7 +46,7 @@ pub fn searched(
 }
 
 // Compares the judge on one list.
-fn judged(
+pub fn judged(
     seed: u64,
     points: &[i32],
     triangles: &[u8],

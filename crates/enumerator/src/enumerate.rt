@@ -1,11 +1,11 @@
 // Every lawful filling of a job, straight from the laws: each subset of the fours that keep law 2 is tried, in no clever order and with nothing left out.
-use crate::fours::at_place;
-use crate::fours::how_many;
 use crate::read::byte_at;
 use crate::read::put_all;
 use crate::rules::has_quality;
 use crate::rules::lowest_broken;
 use crate::rules::worst;
+use crate::tetrahedra::at_place;
+use crate::tetrahedra::how_many;
 use lines::list::front;
 use lines::list::put;
 use lines::list::upto;

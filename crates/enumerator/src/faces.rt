@@ -1,8 +1,8 @@
 // Triangles of three points' numbers, and the outward faces of tetrahedra.
-use crate::fours::listed;
 use crate::read::byte_at;
 use crate::read::put_all;
 use crate::read::start;
+use crate::tetrahedra::listed;
 use geometry_c::checked::turned;
 use lines::list::front;
 

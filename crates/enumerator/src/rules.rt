@@ -6,13 +6,13 @@ use crate::faces::put_faces;
 use crate::faces::reversed;
 use crate::faces::stands;
 use crate::faces::triangle_at;
-use crate::fours::is_covered;
-use crate::fours::listed;
-use crate::fours::place_of;
 use crate::read::LONGEST;
 use crate::read::byte_at;
 use crate::read::number_at;
 use crate::read::start;
+use crate::tetrahedra::is_covered;
+use crate::tetrahedra::listed;
+use crate::tetrahedra::place_of;
 use geometry::tetrahedron::Four;
 use geometry_c::checked::YES;
 use geometry_c::checked::apart;
@@ -181,9 +181,9 @@ pub fn lowest_broken(
     0
 }
 
-// The least entry of the list's fours; 1,000,001 for the empty list.
+// The least entry of the list's fours; 1,000,000 for the empty list.
 pub fn worst(points: &[i32], table: &[i32], list: &[u8]) -> u32 {
-    let mut least: u32 = 1_000_001;
+    let mut least: u32 = 1_000_000;
     for i in 0..list.len() / 4 {
         let q = entry(points, table, listed(list, i));
         if q < least {

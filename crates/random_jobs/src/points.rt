@@ -6,7 +6,7 @@ use crate::damage::SEVENTEEN_POINTS;
 use crate::damage::THREE_POINTS;
 use crate::random::drawn;
 use crate::random::index;
-use enumerator::checker::is_taken;
+use enumerator::admission::is_taken;
 use enumerator::read::number_at;
 use enumerator::read::start;
 use lines::list::front_integers;

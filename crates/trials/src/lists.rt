@@ -1,11 +1,11 @@
 // Lists for the judge: subsets of the fours that keep law 2, a lawful filling with a four put in or left out, and lists that are out of order.
 use enumerator::enumerate::MOST;
 use enumerator::enumerate::put_subset;
-use enumerator::fours::at_place;
-use enumerator::fours::how_many;
-use enumerator::fours::is_covered;
 use enumerator::read::byte_at;
 use enumerator::read::put_all;
+use enumerator::tetrahedra::at_place;
+use enumerator::tetrahedra::how_many;
+use enumerator::tetrahedra::is_covered;
 use lines::list::front;
 use lines::list::put;
 use lines::list::upto;

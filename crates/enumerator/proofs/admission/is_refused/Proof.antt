@@ -1,8 +1,8 @@
--- `enumerator::checker::is_refused` is safe and ends. Assumes nothing.
+-- `enumerator::admission::is_refused` is safe and ends. Assumes nothing.
 use Prim.Native.Nat.{_-_}
 use borrow.Author.Needs.{needs}
-use Rattle.enumerator.proofs.checker.is_refused.Statement.{statement}
-use Rattle.enumerator.proofs.checker.is_refused.Tie as tie
+use Rattle.enumerator.proofs.admission.is_refused.Statement.{statement}
+use Rattle.enumerator.proofs.admission.is_refused.Tie as tie
 
 abbrev Inv-loop : tie.InvT-loop
 Inv-loop number points triangles kept inner table many i₀ i-end i = Unit {0}

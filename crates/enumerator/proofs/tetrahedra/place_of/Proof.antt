@@ -1,8 +1,8 @@
--- `enumerator::fours::place_of` is safe and ends. Assumes nothing.
+-- `enumerator::tetrahedra::place_of` is safe and ends. Assumes nothing.
 use Prim.Native.Nat.{_-_}
 use borrow.Author.Needs.{needs}
-use Rattle.enumerator.proofs.fours.place_of.Statement.{statement}
-use Rattle.enumerator.proofs.fours.place_of.Tie as tie
+use Rattle.enumerator.proofs.tetrahedra.place_of.Statement.{statement}
+use Rattle.enumerator.proofs.tetrahedra.place_of.Tie as tie
 
 abbrev Inv-loop : tie.InvT-loop
 Inv-loop n f g₀ k₀ g k = Unit {0}

@@ -1,8 +1,8 @@
--- `enumerator::checker::is_taken` is safe and ends. Assumes nothing.
+-- `enumerator::admission::is_taken` is safe and ends. Assumes nothing.
 use Prim.Native.Nat.{_-_}
 use borrow.Author.Needs.{needs}
-use Rattle.enumerator.proofs.checker.is_taken.Statement.{statement}
-use Rattle.enumerator.proofs.checker.is_taken.Tie as tie
+use Rattle.enumerator.proofs.admission.is_taken.Statement.{statement}
+use Rattle.enumerator.proofs.admission.is_taken.Tie as tie
 
 abbrev Inv-loop : tie.InvT-loop
 Inv-loop points p i q₀ q = Unit {0}

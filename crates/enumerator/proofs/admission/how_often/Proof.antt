@@ -1,8 +1,8 @@
--- `enumerator::checker::how_often` is safe and ends. Assumes nothing.
+-- `enumerator::admission::how_often` is safe and ends. Assumes nothing.
 use Prim.Native.Nat.{_-_}
 use borrow.Author.Needs.{needs}
-use Rattle.enumerator.proofs.checker.how_often.Statement.{statement}
-use Rattle.enumerator.proofs.checker.how_often.Tie as tie
+use Rattle.enumerator.proofs.admission.how_often.Statement.{statement}
+use Rattle.enumerator.proofs.admission.how_often.Tie as tie
 
 abbrev Inv-loop : tie.InvT-loop
 Inv-loop triangles p q n₀ i₀ i-end n i = Unit {0}

@@ -4,12 +4,12 @@ use crate::faces::has_edge;
 use crate::faces::reversed;
 use crate::faces::stands;
 use crate::faces::triangle_at;
-use crate::fours::at_place;
-use crate::fours::how_many;
 use crate::read::LONGEST;
 use crate::read::byte_at;
 use crate::read::number_at;
 use crate::read::start;
+use crate::tetrahedra::at_place;
+use crate::tetrahedra::how_many;
 use geometry_c::checked::YES;
 use geometry_c::checked::solid;
 use lines::list::upto;
@@ -41,7 +41,17 @@ fn how_often(triangles: &[u8], p: usize, q: usize) -> usize {
     n
 }
 
-// Numbers that are about how many there are: 4 to 16 points, 4 to 560 triangles, up to 120 kept edges, up to 560 inner triangles, an entry for each four.
+// The empty job: no points, triangles, kept edges, inner triangles or qualities (document 02, request 2).
+fn is_empty(points: &[i32], triangles: &[u8], kept: &[u8], inner: &[u8], table: &[i32]) -> bool {
+    (points.len() == 0)
+        & (triangles.len() == 0)
+        & (kept.len() == 0)
+        & (inner.len() == 0)
+        & (table.len() == 0)
+}
+
+// Numbers that are about how many there are: 4 to 16 points, 4 to 560 triangles, up to 120 kept edges, up to 560 inner triangles, an entry for each four. 2 and 5 do not
+// apply to the empty job.
 fn is_miscounted(
     number: u32,
     points: &[i32],
@@ -53,11 +63,13 @@ fn is_miscounted(
     match number {
         2 => {
             let len = points.len();
-            (len % 3 != 0) | (len < 12) | (len > 48)
+            let is_out = (len % 3 != 0) | (len < 12) | (len > 48);
+            is_out & !is_empty(points, triangles, kept, inner, table)
         }
         5 => {
             let len = triangles.len();
-            (len % 3 != 0) | (len < 12) | (len > 1680)
+            let is_out = (len % 3 != 0) | (len < 12) | (len > 1680);
+            is_out & !is_empty(points, triangles, kept, inner, table)
         }
         9 => {
             let len = kept.len();

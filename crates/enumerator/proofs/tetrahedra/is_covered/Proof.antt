@@ -1,8 +1,8 @@
--- `enumerator::fours::is_covered` is safe and ends. Assumes nothing.
+-- `enumerator::tetrahedra::is_covered` is safe and ends. Assumes nothing.
 use Prim.Native.Nat.{_-_}
 use borrow.Author.Needs.{needs}
-use Rattle.enumerator.proofs.fours.is_covered.Statement.{statement}
-use Rattle.enumerator.proofs.fours.is_covered.Tie as tie
+use Rattle.enumerator.proofs.tetrahedra.is_covered.Statement.{statement}
+use Rattle.enumerator.proofs.tetrahedra.is_covered.Tie as tie
 
 abbrev Inv-loop : tie.InvT-loop
 Inv-loop list f i₀ i-end i = Unit {0}

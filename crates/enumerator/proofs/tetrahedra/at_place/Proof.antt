@@ -1,8 +1,8 @@
--- `enumerator::fours::at_place` is safe and ends. Assumes nothing.
+-- `enumerator::tetrahedra::at_place` is safe and ends. Assumes nothing.
 use Prim.Native.Nat.{_-_}
 use borrow.Author.Needs.{needs}
-use Rattle.enumerator.proofs.fours.at_place.Statement.{statement}
-use Rattle.enumerator.proofs.fours.at_place.Tie as tie
+use Rattle.enumerator.proofs.tetrahedra.at_place.Statement.{statement}
+use Rattle.enumerator.proofs.tetrahedra.at_place.Tie as tie
 
 abbrev Inv-loop : tie.InvT-loop
 Inv-loop n k f₀ i₀ f i = Unit {0}

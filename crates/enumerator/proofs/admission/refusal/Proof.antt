@@ -1,8 +1,8 @@
--- `enumerator::checker::refusal` is safe and ends. Assumes nothing.
+-- `enumerator::admission::refusal` is safe and ends. Assumes nothing.
 use Prim.Native.Nat.{_-_}
 use borrow.Author.Needs.{needs}
-use Rattle.enumerator.proofs.checker.refusal.Statement.{statement}
-use Rattle.enumerator.proofs.checker.refusal.Tie as tie
+use Rattle.enumerator.proofs.admission.refusal.Statement.{statement}
+use Rattle.enumerator.proofs.admission.refusal.Tie as tie
 
 abbrev Inv-loop : tie.InvT-loop
 Inv-loop points triangles kept inner table order i₀ i = Unit {0}
