@@ -2,7 +2,7 @@
 RT = rt
 PREFIX = /usr/local
 CFLAGS = -O2 -Wall -Wextra
-VERSION = 1.1.0
+VERSION = 1.2.0
 SONAME = libcottontuff.so.1
 library = target/staticlib/libcottontuff.a
 shared = target/lib/libcottontuff.so.$(VERSION)
@@ -17,7 +17,7 @@ all: $(library) $(shared) target/cottontuff.pc $(programs:%=target/bin/%) target
 
 help:
 	@echo 'make             the library, static and shared, target/cottontuff.pc, the programs, the examples in C'
-	@echo 'make check       the gate: proves all from nothing (.ci/run, some 35 minutes)'
+	@echo 'make check       the gate: proves all from nothing (.ci/run, some 25 minutes)'
 	@echo 'make test        the tests outside the prover (tests/run)'
 	@echo 'make install     into PREFIX (default /usr/local; DESTDIR before it): libraries, header, pkg-config file, programs, manual pages, guide, Rust crate'
 	@echo 'make uninstall   takes them out again'

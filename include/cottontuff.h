@@ -45,10 +45,10 @@ int main(void) {
 extern "C" {
 #endif
 
-#define COTTONTUFF_VERSION "1.1.0"
+#define COTTONTUFF_VERSION "1.2.0"
 
 /* ---- sizes of a job */
-#define COTTONTUFF_LEAST_POINTS 4
+#define COTTONTUFF_LEAST_POINTS 4                              /* or none at all, with every other list empty: the empty job */
 #define COTTONTUFF_MOST_POINTS 16
 #define COTTONTUFF_MOST_TRIANGLES 560                          /* threes of 16 points: 16 * 15 * 14 / 6 */
 #define COTTONTUFF_MOST_KEPT 120                               /* twos of 16 points: 16 * 15 / 2 */
@@ -78,10 +78,10 @@ extern "C" {
 enum cottontuff_number {
     COTTONTUFF_DONE = 0,
     COTTONTUFF_BAD_TEXT = 1,         /* printout: over 65,536 bytes, or not of the form */
-    COTTONTUFF_POINT_COUNT = 2,      /* not 4 to 16 points (a mesh: 4 to 64), or length no multiple of 3 */
+    COTTONTUFF_POINT_COUNT = 2,      /* not 4 to 16 points, except in the empty job (a mesh: not 4 to 64), or length no multiple of 3 */
     COTTONTUFF_FAR_COORDINATE = 3,   /* a coordinate below -10,000 or above 10,000 */
     COTTONTUFF_SAME_PLACE = 4,       /* two points in one place */
-    COTTONTUFF_TRIANGLE_COUNT = 5,   /* not 4 to 560 triangles, or length no multiple of 3 */
+    COTTONTUFF_TRIANGLE_COUNT = 5,   /* not 4 to 560 triangles, except in the empty job, or length no multiple of 3 */
     COTTONTUFF_BAD_TRIANGLE = 6,     /* a triangle with an absent or repeated point */
     COTTONTUFF_SAME_TRIANGLE = 7,    /* two triangles with the same three points */
     COTTONTUFF_OPEN_BOUNDARY = 8,    /* a directed edge stands more or less often than its reverse */
@@ -116,7 +116,13 @@ enum cottontuff_number {
  * inner: three point numbers for each triangle inside that the filling must have as a face, whichever way round; one may be repeated or reversed, and a boundary triangle may be listed.
  * table: a quality for each four of points a < b < c < d, in lexicographic order (0123, 0124, 0134, 0234, 1234 for five points):
  *        1 to 1,000,000 millionths, 0 bars the four, -1 leaves it unmeasured, which only a flat four may be.
- * A function whose name ends in _inner takes the list inner; the one without means a job that has none, and answers what it answers for an empty list. */
+ * A function whose name ends in _inner takes the list inner; the one without means a job that has none, and answers what it answers for an empty list.
+ *
+ * The empty job has nothing in any list, as a hole that is already closed. Its one filling is the empty list, of worst quality 1,000,000:
+ *   cottontuff_search(NULL, 0, NULL, 0, NULL, 0, NULL, 0, answer, sizeof answer)
+ * answers number 0, count 0 and worst 1,000,000, and changes no byte of answer, whose length is asked for all the same (14). A loop over the tetrahedra runs no time.
+ * The judge passes the empty list with 1,000,000; every other list breaks law 1. With one entry more, in any list, the job is refused with 2.
+ * Before version 1.2.0 it was refused with 2: it is the one job that cottontuff_check, cottontuff_judge, cottontuff_search and cottontuff_print answer otherwise than they did. */
 
 /* 0 for a job that can be searched, else 2 to 13, 22 or 23. */
 uint32_t cottontuff_check(const int32_t *points, size_t points_len, const uint8_t *triangles, size_t triangles_len,
@@ -141,8 +147,8 @@ cottontuff_verdict cottontuff_judge_inner(const int32_t *points, size_t points_l
 
 typedef struct {
     uint32_t number; /* 0, or 2 to 15, 22 or 23, and then the rest is 0 */
-    uint32_t count;  /* tetrahedra of the filling */
-    uint32_t worst;  /* their least quality, in millionths */
+    uint32_t count;  /* tetrahedra of the filling; 0 for the empty job, with number 0 */
+    uint32_t worst;  /* their least quality, in millionths; 1,000,000 for the empty job */
 } cottontuff_found;
 
 /* The lawful filling of greatest worst quality, the first among equals: 4 * count bytes at the start of answer, each four with increasing point numbers.
@@ -168,12 +174,12 @@ typedef struct {
 cottontuff_measured cottontuff_measure(const int32_t *coordinates, size_t coordinates_len);
 
 /* Measures a job's table: every entry that is COTTONTUFF_UNMEASURED_ENTRY becomes the quality of its four, and stays -1 where the four is flat. No other entry is touched, so what is barred
- * or measured by hand stands. table: lent, COTTONTUFF_TABLE_LENGTH_OF(points) entries. Answers 0, or 2, 3, 4 or 11, and then the table is as it was. */
+ * or measured by hand stands. table: lent, COTTONTUFF_TABLE_LENGTH_OF(points) entries. Answers 0, or 2, 3, 4 or 11, and then the table is as it was; 2 also for no points, which have no table. */
 uint32_t cottontuff_measure_table(const int32_t *points, size_t points_len, int32_t *table, size_t table_len);
 
 /* ---- text and printout */
 /* The printout of a job's text, as the program `cavity` prints it: the bytes, without a 0 behind them, at the start of out; answers how many there are.
- * A text of any bytes has a printout. Into a buffer under COTTONTUFF_PRINT_BYTES nothing is written, and the answer is 0. */
+ * A text of any bytes has a printout; that of no bytes is the empty job, and prints F,0,1000000 and LF, 12 bytes. Into a buffer under COTTONTUFF_PRINT_BYTES nothing is written, and the answer is 0. */
 size_t cottontuff_print(const uint8_t *text, size_t text_len, uint8_t *out, size_t out_len);
 
 /* ---- the bench: a mesh and at most one open cavity, handed over and back by value
@@ -198,7 +204,7 @@ typedef struct {
 
 cottontuff_bench cottontuff_bench_fresh(void);
 
-/* points: x, y, z of 4 to 64 points; tets: four point numbers of each of 1 to 256 tetrahedra. 32, then 2, 3, 4, 17, 18, 19. The count stays. */
+/* points: x, y, z of 4 to 64 points; tets: four point numbers of each of 1 to 256 tetrahedra. 32, then 2, 3, 4, 17, 18, 19. The count stays. A mesh is no job: no points are 2. */
 cottontuff_bench_answer cottontuff_bench_load(cottontuff_bench bench, const int32_t *points, size_t points_len,
                                               const uint8_t *tets, size_t tets_len);
 

@@ -19,6 +19,9 @@
 //! assert_eq!(search(&Job { table: &[500000, 0, 0, 450000, 460000], ..job }), Err(Number::NO_FILLING));
 //! // With the triangle 0 1 2 inside as a face there are two, the worse of 400000.
 //! assert_eq!(search(&Job { inner: &[0, 1, 2], ..job })?.worst, 400000);
+//! // Nothing at all is a job too: the empty list fills it.
+//! let filling = search(&Job::default())?;
+//! assert_eq!((filling.fours.len(), filling.worst), (0, 1_000_000));
 //! # Ok::<(), Number>(())
 //! ```
 #![allow(dead_code)]
@@ -41,7 +44,8 @@ pub mod c {
         pub worst: u32,
     }
 
-    /// `number`: 0, or 2 to 15, 22 or 23, and then the rest is 0. `count`: tetrahedra of the filling. `worst`: their least quality.
+    /// `number`: 0, or 2 to 15, 22 or 23, and then the rest is 0. `count`: tetrahedra of the filling, 0 for the empty job. `worst`: their least quality,
+    /// 1,000,000 where there are none.
     #[repr(C)]
     #[derive(Clone, Copy, Debug, PartialEq, Eq)]
     pub struct Found {
@@ -253,7 +257,7 @@ fn refused(number: u32) -> Result<(), Number> {
 }
 
 /// A cavity with its qualities. Any lists may stand here; the functions say what is wrong with them.
-/// `Job::default()` has none, and is refused with 2.
+/// `Job::default()` has none: it is the empty job, whose one filling is the empty list, of worst quality 1,000,000.
 #[derive(Clone, Copy, Debug, Default)]
 pub struct Job<'a> {
     /// x, y, z of each point.
@@ -284,7 +288,7 @@ pub struct Found {
     pub worst: u32,
 }
 
-/// A lawful filling, each four with its numbers rising, and the least of their qualities, in millionths.
+/// A lawful filling, each four with its numbers rising, and the least of their qualities, in millionths; for the empty job none and 1,000,000.
 #[derive(Clone, Debug, PartialEq, Eq)]
 pub struct Filling {
     pub fours: Vec<[u8; 4]>,
@@ -654,14 +658,62 @@ mod tests {
     }
 
     #[test]
-    fn empty_lists_are_refused() {
+    fn the_empty_job_has_the_empty_list() {
         let job = Job::default();
-        assert_eq!(check(&job), Err(Number::POINT_COUNT));
-        assert_eq!(judge(&job, &[]), Err(Number::POINT_COUNT));
-        assert_eq!(search(&job), Err(Number::POINT_COUNT));
-        assert_eq!(search_into(&job, &mut []), Err(Number::POINT_COUNT));
-        assert_eq!(check(&Job { triangles: &[], ..b(&[], &B_TABLE) }), Err(Number::TRIANGLE_COUNT));
-        assert_eq!(check(&b(&[], &[])), Err(Number::TABLE_LENGTH));
+        assert_eq!(check(&job), Ok(()));
+        assert_eq!(search(&job), filled(&[], 1_000_000));
+        assert_eq!(judge(&job, &[]), Ok(Judgement::Lawful(1_000_000)));
+        // No point is there: every other list breaks law 1.
+        for list in [&[0][..], &[0, 1, 2], &[0, 1, 2, 3], &[255; 4], &[0, 1, 2, 3, 4, 5, 6, 7]] {
+            assert_eq!(judge(&job, list), Ok(Judgement::Breaks(1)));
+        }
+        let mut enough = [0xa5; ANSWER_BYTES];
+        assert_eq!(search_into(&job, &mut enough), Ok(Found { count: 0, worst: 1_000_000 }));
+        assert_eq!(enough, [0xa5; ANSWER_BYTES]);
+        let mut short = [0xa5; ANSWER_BYTES - 1];
+        assert_eq!(search_into(&job, &mut short), Err(Number::SHORT_BUFFER));
+        assert_eq!(short, [0xa5; ANSWER_BYTES - 1]);
+        assert_eq!(search_into(&job, &mut []), Err(Number::SHORT_BUFFER));
+    }
+
+    #[test]
+    fn empty_lists_are_refused() {
+        // Every pattern of empty and non-empty lists but the empty job. With points, triangles and table a job is sound.
+        for pattern in 1..32 {
+            let has = |bit: u8| pattern >> bit & 1 == 1;
+            let job = Job {
+                points: if has(0) { &B_POINTS } else { &[] },
+                triangles: if has(1) { &B_TRIANGLES } else { &[] },
+                kept: if has(2) { &[0, 1] } else { &[] },
+                inner: if has(3) { &[0, 1, 3] } else { &[] },
+                table: if has(4) { &B_TABLE } else { &[] },
+            };
+            let number = match (has(0), has(1), has(4)) {
+                (false, _, _) => Number::POINT_COUNT,
+                (true, false, _) => Number::TRIANGLE_COUNT,
+                (true, true, false) => Number::TABLE_LENGTH,
+                (true, true, true) => {
+                    assert_eq!(check(&job), Ok(()));
+                    continue;
+                }
+            };
+            assert_eq!(check(&job), Err(number));
+            assert_eq!(judge(&job, &[]), Err(number));
+            assert_eq!(search(&job), Err(number));
+            assert_eq!(search_into(&job, &mut []), Err(number));
+        }
+        // One entry is enough.
+        let none = Job::default();
+        for job in [
+            Job { points: &[0], ..none },
+            Job { triangles: &[0], ..none },
+            Job { kept: &[0], ..none },
+            Job { inner: &[0], ..none },
+            Job { table: &[0], ..none },
+        ] {
+            assert_eq!(search(&job), Err(Number::POINT_COUNT));
+        }
+        assert_eq!(Bench::fresh().load(&[], &[]), Err(Number::POINT_COUNT));
     }
 
     #[test]
@@ -726,7 +778,10 @@ mod tests {
     fn a_text_has_a_printout() {
         let printout = b"F,3,450000\nH,0,1,3,4,450000,2\nH,0,2,3,4,450000,2\nH,1,2,3,4,460000,2\n";
         assert_eq!(print(B_TEXT), printout);
-        assert_eq!(print(b""), b"R,2\n");
+        assert_eq!(print(b""), b"F,0,1000000\n");
+        for lines in [&b"P,0,0,0\n"[..], b"T,0,1,2\n", b"E,0,1\n", b"K,0,1,2\n", b"Q,0,1,2,3,5\n"] {
+            assert_eq!(print(lines), b"R,2\n");
+        }
         assert_eq!(print(b"P,0,0\n"), b"R,1\n");
         assert_eq!(print(&[b'\n'; 65537]), b"R,1\n");
         let mut short = [0xa5; PRINTOUT_BYTES - 1];

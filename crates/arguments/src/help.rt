@@ -8,7 +8,7 @@ fn print(text: &[u8]) {
 }
 
 pub fn print_version() {
-    print(b"cavity 1.1.0\n");
+    print(b"cavity 1.2.0\n");
 }
 
 pub fn print_help() {
@@ -31,6 +31,7 @@ A job is lines that end with LF, fields parted by commas without blanks, in this
 \x20 Q,a,b,c,d,v  the quality of the four a<b<c<d in millionths, 1 to 1000000; 0 bars it\n\
 Numbers have 1 to 7 digits and no leading zeros; a minus stands only before a coordinate that\n\
 is not 0. Every four that is not flat needs a Q line. A text has at most 65536 bytes.\n\
+No line at all is a job too, a hole already closed: its answer is F,0,1000000.\n\
 The answer is F,count,worst and H,a,b,c,d,quality,boundary faces for each tetrahedron,\n\
 or R,number. The exit status is always 0: an answer begins with F or R.\n\
 \n\
