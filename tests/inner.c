@@ -6,7 +6,8 @@
 // Ends in 'N passed, M failed'.
 #include "job.h"
 
-enum { FIELDS = 8, MOST = 1 << 16 };
+// As long as the longest buffer of a row, and longer.
+enum { FIELDS = 8, MOST = 1 << 17 };
 
 static int32_t points[MOST], table[MOST];
 static uint8_t triangles[MOST], kept[MOST], inner[MOST], list[MOST];

@@ -4,7 +4,7 @@
     tests/law_cases.py [JOBS [OUT]]
 
 JOBS (../shared/jobs) has small/NAME.txt, a job; small/NAME.out, its printout; judge/cases.txt, lines NAME;LIST;RESULT; and the same of jobs with inner triangles in
-slip-01/, with the lists in slip-01/judge.txt.
+slip-01/, with the lists in slip-01/judge.txt; and slip-02/judge-lists.txt, lines P;T;E;K;Q;LIST;RESULT about the empty job.
 OUT (crates/law_cases/stdin) has the form that crates/law_cases/src/main.rt describes.
 """
 import itertools
@@ -33,6 +33,13 @@ FURTHER_LISTS = [
     # Fillings that are lawful but for the kept edge.
     ("case-B-0124-500000-E34", "0,1,2,3,0,1,2,4", "L,7"),
     ("cube-six-E16", "0,1,3,7,0,1,5,7,0,2,3,7,0,2,6,7,0,4,5,7,0,4,6,7", "L,7"),
+]
+
+# The empty job, as far as the stored lists do not reach.
+EMPTY_LISTS = [
+    ";;;;;;W,1000000",
+    ";;;;;0,1,2,3;L,1",
+    ";;0,1;;;;R,2",
 ]
 
 
@@ -64,9 +71,10 @@ def read_job(text):
 
 
 def table_of(count, qualities):
-    # A count outside the limits is refused before any table is looked at, and over 16 points have a table too long for the program.
+    # A count outside the limits is refused before any table is looked at, and over 16 points have a table too long for the program. Q lines without points are not the empty job: a bad
+    # Q hands on two entries.
     if not 4 <= count <= 16:
-        return []
+        return [-1, -1] if qualities and count < 4 else []
     table = [qualities.pop(four, -1) for four in fours(count)]
     if qualities:
         raise LeftOut("a Q for an absent four")
@@ -123,6 +131,19 @@ def lines_of(name, text, printout, lists):
         settled = [filling(printout)]
     lists = lists + [case for case in settled if case not in lists]
     return [job_line(name, read_job(text), number)] + [f"L;{numbers};{result}" for numbers, result in lists]
+
+
+def listed_lines(rows):
+    """Jobs that are given by their lists, each with the lists to be judged that follow it."""
+    lines = []
+    jobs = itertools.groupby((row.split(";") for row in rows), key=lambda fields: fields[:5])
+    for i, (job, cases) in enumerate(jobs):
+        cases = list(cases)
+        kind, value = cases[0][6].split(",")
+        numbers = [[int(n) for n in field.split(",") if n] for field in job]
+        lines.append(job_line(f"empty-{i}", numbers, int(value) if kind == "R" else 0))
+        lines += [f"L;{case[5]};{case[6]}" for case in cases]
+    return lines
 
 
 def edited_lines(text):
@@ -187,6 +208,7 @@ def main(jobs, out):
     inner_lists = stored_lists(jobs / "slip-01" / "judge.txt", [])
     lines += folder_lines(jobs / "slip-01", inner_lists, LONGEST, left_out)
     lists.update(inner_lists)
+    lines += listed_lines(EMPTY_LISTS + (jobs / "slip-02" / "judge-lists.txt").read_text().splitlines())
     lines += edited_lines((jobs / "small" / "case-B.txt").read_text())
     out.write_text("".join(line + "\n" for line in lines))
     print(f"{sum(line[0] == 'J' for line in lines)} jobs, {sum(line[0] == 'L' for line in lines)} lists")

@@ -1,4 +1,5 @@
 // A program of version 1.0.1, built against its header, for the library of today: the job functions over case B and over a job for each number. Its output is tests/old.out, written by the library of 1.0.1.
+// The one job that these functions answer otherwise since 1.2.0, the empty one, is not among them: tests/empty.c has it.
 #include "cottontuff-1.0.1.h"
 #include <stdio.h>
 #include <string.h>

@@ -4,6 +4,7 @@ use std::path::PathBuf;
 
 mod bench;
 mod check;
+mod empty;
 mod judge;
 mod large;
 mod measure;
@@ -42,6 +43,7 @@ pub const GROUPS: &[Group] = &[
     judge::GROUP,
     search::GROUP,
     large::GROUP,
+    empty::GROUP,
     measure::GROUP,
     tables::GROUP,
     text::GROUP,

@@ -1,9 +1,9 @@
-//! Stored answers, where a folder of them is given: NAME.txt with NAME.out, judge/cases.txt, measure/cases.txt; in a folder slip-NN judge.txt and
-//! lists.txt. Library and reference both answer them, the reference where it ends soon.
+//! Stored answers, where a folder of them is given: NAME.txt with NAME.out, judge/cases.txt, measure/cases.txt; in a folder slip-NN judge.txt,
+//! judge-lists.txt and lists.txt. Library and reference both answer them, the reference where it ends soon.
 use super::search::{expected as answered, safely};
 use super::{Group, Part};
 use crate::jobs::Made;
-use crate::reference::job;
+use crate::reference::job::{self, Lists};
 use crate::reference::measure::{measure, Measurement};
 use crate::reference::search::best_by_faces;
 use crate::reference::text::{print, read};
@@ -56,6 +56,24 @@ pub fn decimals<T: std::str::FromStr>(list: &str) -> Vec<T> {
     list.split(',').filter_map(|n| n.parse().ok()).collect()
 }
 
+/// What library and reference say of a list, W,worst or L,law or R,number.
+fn judged(tally: &mut Tally, job: &Job, lists: &Lists, case: &[String], list: &str, result: &String) {
+    let list = decimals::<u8>(list);
+    let got = match cottontuff::judge(job, &list) {
+        Ok(Judgement::Lawful(worst)) => format!("W,{worst}"),
+        Ok(Judgement::Breaks(law)) => format!("L,{law}"),
+        Err(number) => format!("R,{}", number.0),
+    };
+    tally.compare("judged".to_string(), result, &got, || case.join(";"));
+    let numbers: Vec<usize> = list.iter().map(|b| usize::from(*b)).collect();
+    let listed = match job::check(lists).map(|job| job.judge(&numbers)) {
+        Ok(Ok(worst)) => format!("W,{worst}"),
+        Ok(Err(law)) => format!("L,{law}"),
+        Err(number) => format!("R,{number}"),
+    };
+    tally.compare("judged by the reference".to_string(), result, &listed, || case.join(";"));
+}
+
 /// Lines JOB;LIST;RESULT.
 fn judge_cases(tally: &mut Tally, lines: PathBuf, jobs: &Path) {
     for case in cases(lines) {
@@ -63,31 +81,29 @@ fn judge_cases(tally: &mut Tally, lines: PathBuf, jobs: &Path) {
         let lists = read(&text).unwrap_or_default();
         let bytes = |numbers: &[usize]| numbers.iter().map(|n| *n as u8).collect::<Vec<u8>>();
         let (triangles, kept, inner) = (bytes(&lists.triangles), bytes(&lists.kept), bytes(&lists.inner));
-        let list = decimals::<u8>(&case[1]);
-        let job =
-            Job { points: &lists.points, triangles: &triangles, kept: &kept, inner: &inner, table: &lists.table };
-        let got = match cottontuff::judge(&job, &list) {
-            Ok(Judgement::Lawful(worst)) => format!("W,{worst}"),
-            Ok(Judgement::Breaks(law)) => format!("L,{law}"),
-            Err(number) => format!("R,{}", number.0),
-        };
-        tally.compare("judged".to_string(), &case[2], &got, || case.join(";"));
-        let numbers: Vec<usize> = list.iter().map(|b| usize::from(*b)).collect();
-        let listed = match job::check(&lists).map(|job| job.judge(&numbers)) {
-            Ok(Ok(worst)) => format!("W,{worst}"),
-            Ok(Err(law)) => format!("L,{law}"),
-            Err(number) => format!("R,{number}"),
-        };
-        tally.compare("judged by the reference".to_string(), &case[2], &listed, || case.join(";"));
+        let job = Job { points: &lists.points, triangles: &triangles, kept: &kept, inner: &inner, table: &lists.table };
+        judged(tally, &job, &lists, &case, &case[1], &case[2]);
+    }
+}
+
+/// The job of a line that begins P;T;E;K;Q.
+fn made_of(case: &[String]) -> Made {
+    let [triangles, kept, inner] = [1, 2, 3].map(|at| decimals(&case[at]));
+    Made { points: decimals(&case[0]), triangles, kept, inner, table: decimals(&case[4]), filling: Vec::new() }
+}
+
+/// Lines P;T;E;K;Q;LIST;RESULT.
+fn judge_list_cases(tally: &mut Tally, folder: &Path) {
+    for case in cases(folder.join("judge-lists.txt")) {
+        let made = made_of(&case);
+        judged(tally, &made.job(), &made.lists(), &case, &case[5], &case[6]);
     }
 }
 
 /// Lines P;T;E;K;Q;BUFFER;NUMBER,COUNT,WORST;LIST: a job's lists, the length of the buffer, and what the search answers.
 fn list_cases(tally: &mut Tally, folder: &Path) {
     for case in cases(folder.join("lists.txt")) {
-        let [triangles, kept, inner] = [1, 2, 3].map(|at| decimals(&case[at]));
-        let (points, table) = (decimals(&case[0]), decimals(&case[4]));
-        let made = Made { points, triangles, kept, inner, table, filling: Vec::new() };
+        let made = made_of(&case);
         let pattern: Vec<u8> = (0..case[5].parse().unwrap_or(0)).map(|i: usize| i as u8 ^ 0x5a).collect();
         let (found, list): (Vec<u32>, Vec<u8>) = (decimals(&case[6]), decimals(&case[7].replace(' ', ",")));
         let expected = (found, [&list[..], &pattern[list.len()..]].concat());
@@ -102,9 +118,15 @@ fn list_cases(tally: &mut Tally, folder: &Path) {
             Ok((_, None)) => tally.count("given up"),
             Ok((job, Some(best))) => {
                 let got = answered(&Ok((job, best)), pattern);
-                tally.compare("searched by the reference".to_string(), &expected, &(got.0.to_vec(), got.1), || case.join(";"));
+                tally.compare("searched by the reference".to_string(), &expected, &(got.0.to_vec(), got.1), || {
+                    case.join(";")
+                });
             }
-            Err(number) => tally.compare("searched by the reference".to_string(), &expected.0, &vec![number, 0, 0], || case.join(";")),
+            Err(number) => {
+                tally.compare("searched by the reference".to_string(), &expected.0, &vec![number, 0, 0], || {
+                    case.join(";")
+                })
+            }
         }
     }
 }
@@ -144,6 +166,7 @@ fn run(part: &Part) -> Tally {
         if part.number == 0 {
             judge_cases(&mut tally, folder.join("judge/cases.txt"), &folder.join("small"));
             judge_cases(&mut tally, folder.join("judge.txt"), folder);
+            judge_list_cases(&mut tally, folder);
             list_cases(&mut tally, folder);
             measure_cases(&mut tally, folder);
         }

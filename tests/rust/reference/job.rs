@@ -89,15 +89,16 @@ fn solid_unmeasured(points: &[Point], table: &[i32]) -> bool {
     fours(points.len()).iter().zip(table).any(|(f, entry)| *entry == -1 && d(f.map(|p| points[p])) != 0)
 }
 
-/// The number whose place comes first of those that apply (22 and 23 stand between 10 and 11), or the job.
+/// The number whose place comes first of those that apply (22 and 23 stand between 10 and 11), or the job. 2 and 5 do not apply to the empty job.
 pub fn check(lists: &Lists) -> Result<Job, u32> {
     let Lists { points, triangles, kept, inner, table } = lists;
     let (count, threes, edges) = (points.len() / 3, triangles.len() / 3, kept.len() / 2);
     let refuse = |number: u32, applies: bool| if applies { Err(number) } else { Ok(()) };
-    refuse(2, points.len() % 3 != 0 || !(4..=16).contains(&count))?;
+    let empty = *lists == Lists::default();
+    refuse(2, !empty && (points.len() % 3 != 0 || !(4..=16).contains(&count)))?;
     refuse(3, far(points))?;
     refuse(4, same_place(points))?;
-    refuse(5, triangles.len() % 3 != 0 || !(4..=560).contains(&threes))?;
+    refuse(5, !empty && (triangles.len() % 3 != 0 || !(4..=560).contains(&threes)))?;
     refuse(6, triangles.chunks(3).any(|t| absent_or_repeated(t, count)))?;
     refuse(7, same_three(&triangles_in(triangles)))?;
     refuse(8, unbalanced(&triangles_in(triangles)))?;

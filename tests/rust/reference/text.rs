@@ -60,8 +60,8 @@ pub fn read(text: &[u8]) -> Option<Lists> {
     let points: Vec<i32> = of_kind(0).collect();
     let entries: Vec<Vec<i32>> = lines.iter().filter(|l| l.0 == 4).map(|l| l.1.clone()).collect();
     let count = points.len() / 3;
-    // Beyond 16 points the job is refused before its table is looked at.
-    let table = if count <= 16 { table(count, &entries).unwrap_or_default() } else { Vec::new() };
+    // Beyond 16 points the job is refused before its table is looked at. Where a Q is bad the table has a length that is wrong for every count of points, also for none.
+    let table = if count <= 16 { table(count, &entries).unwrap_or(vec![-1; 2]) } else { Vec::new() };
     Some(Lists { points, triangles: unsigned(1), kept: unsigned(2), inner: unsigned(3), table })
 }
 
