@@ -8,12 +8,12 @@ ghost use Rattle.laws.specs.Lists.{job-lists};
 ghost use Rattle.answer.specs.inner.Lists.{Lists-printed};
 
 // The printout of the job that the lists are.
-pub(crate) fn print_lists(
-    points: &[i32],
-    triangles: &[u8],
-    kept: &[u8],
-    inner: &[u8],
-    table: &[i32],
+pub(crate) fn print_lists<'a, 'b>(
+    points: &'a [i32],
+    triangles: &'b [u8],
+    kept: &'b [u8],
+    inner: &'b [u8],
+    table: &'a [i32],
     out: &mut [u8],
 ) -> usize
     requires { ⌜ 43695 ≤ length (now out) ⌝ }

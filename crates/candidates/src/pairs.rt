@@ -1,16 +1,16 @@
 // What a pool's candidates are searched with: their corners and what runs through their faces as sets of points, and the chains of owners by face.
 ghost use mathlib.Core.Path.{_≡_};
 ghost use mathlib.Core.Bool.{true};
-ghost use mathlib.Core.List.{List};
+ghost use mathlib.Core.List.{List, []};
 ghost use Prim.Native.Nat.{ℕ, _+_, _*_, _/_, _%_, _<_, _≤_};
-ghost use lib.ListN.{length};
+ghost use lib.ListN.{length, getD};
 ghost use Rattle.bits.specs.Bit.{bit};
 ghost use Rattle.geometry.specs.Space.{V3, points-in};
 ghost use Rattle.geometry.specs.declared.tetrahedron.Four.{Four};
 ghost use Rattle.laws.specs.Laws.{tri};
 ghost use Rattle.laws.specs.inner.FaceCodes.{Proper-below, face-code};
-ghost use Rattle.laws.specs.Lists.{job-lists};
 ghost use Rattle.fillings.specs.Codes.{Face-table};
+ghost use Rattle.fillings.specs.Lent.{lent, lent-job};
 ghost use Rattle.fillings.specs.Marks.{nth};
 ghost use Rattle.fillings.specs.Pierce.{pierces};
 ghost use Rattle.fillings.specs.Steps.{Context};
@@ -70,23 +70,19 @@ fn through(rows: &[u16], codes: &[u16], k: usize, a: usize) -> u16
 
 // Points b such that the edge from a to b runs through a face of the candidate k, for each a.
 pub fn piercing_sets(
-    points: &[i32],
-    triangles: &[u8],
-    kept: &[u8],
-    inner: &[u8],
-    table: &[i32],
-    rows: &[u16],
+    lists: &[&[u8]; 3],
+    ints: &[&[i32]; 2],
+    faces: &[[u16; 4096]; 3],
     fours: &[u8],
     codes: &[u16],
-    bound: &[u16],
     m: usize,
     piercing: &mut [u16],
 )
-    requires { ⌜ Context (job-lists (now points) (now triangles) (now kept) (now inner) (now table)) (now fours) (now codes) (now bound) m × Rows (points-in (now points)) (now rows) × (length (now piercing) ≡ 29120) ⌝ }
-    ensures { λ _. ⌜ Piercing-sets (points-in (now (points .entry))) m (now (fours .entry)) (now (piercing .exit)) × (length (now (piercing .exit)) ≡ 29120) ⌝ }
+    requires { ⌜ Context (lent-job (now lists) (now ints)) (now fours) (now codes) (getD (now faces) 2 []) m × Rows (points-in (lent (now ints) 0)) (getD (now faces) 0 []) × (length (now piercing) ≡ 29120) ⌝ }
+    ensures { λ _. ⌜ Piercing-sets (points-in (lent (now (ints .entry)) 0)) m (now (fours .entry)) (now (piercing .exit)) × (length (now (piercing .exit)) ≡ 29120) ⌝ }
 {
     for i in 0..m * 16 {
-        piercing[i] = through(rows, codes, i / 16, i % 16);
+        piercing[i] = through(&faces[0], codes, i / 16, i % 16);
     }
 }
 

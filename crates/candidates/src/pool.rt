@@ -2,7 +2,7 @@
 ghost use mathlib.Core.Path.{_≡_};
 ghost use mathlib.Core.Bool.{_||_};
 ghost use mathlib.Core.List.{List};
-ghost use Prim.Native.Nat.{_+_, _*_, _/_, _<_, _≤_};
+ghost use Prim.Native.Nat.{_+_, _*_, _<_, _≤_};
 ghost use lib.Dec.{ltb};
 ghost use lib.ListN.{length, getD, set};
 ghost use Rattle.geometry.specs.Space.{V3, points-in, turned};
@@ -12,6 +12,7 @@ ghost use Rattle.laws.specs.Check.{job, job-refusal};
 ghost use Rattle.laws.specs.inner.FaceCodes.{face-code, flip-code};
 ghost use Rattle.laws.specs.inner.NextFour.{Ordered};
 ghost use Rattle.fillings.specs.Codes.{Bound-flags};
+ghost use Rattle.fillings.specs.Lent.{lent, lent-job};
 ghost use Rattle.fillings.specs.Filing.{put-four, put-faces, copied};
 ghost use Rattle.candidates.specs.Grades.{Graded};
 ghost use Rattle.fillings.specs.Marks.{marked};
@@ -27,6 +28,11 @@ use signs::sides::edge_pierces;
 use signs::sides::is_solid;
 use signs::sides::oriented;
 use trail::codes::flip;
+use trail::lent::INNER;
+use trail::lent::KEPT;
+use trail::lent::POINTS;
+use trail::lent::TABLE;
+use trail::lent::TRIANGLES;
 
 // The faces of a tetrahedron by code, outward where it is read in the order that makes its volume positive.
 struct Faces {
@@ -244,11 +250,8 @@ fn file(
 
 // The quality of f where it is a candidate of quality q at least, and 0 where it is none.
 fn grade(
-    points: &[i32],
-    triangles: &[u8],
-    kept: &[u8],
-    inner: &[u8],
-    table: &[i32],
+    lists: &[&[u8]; 3],
+    ints: &[&[i32]; 2],
     rows: &[u16],
     bound: &[u16],
     n: usize,
@@ -256,9 +259,10 @@ fn grade(
     f: Four,
     at: usize,
 ) -> u32
-    requires { ⌜ (job-refusal (job-lists (now points) (now triangles) (now kept) (now inner) (now table)) ≡ 0) × Rows (points-in (now points)) (now rows) × Bound-flags (job (job-lists (now points) (now triangles) (now kept) (now inner) (now table)) .triangles) (now bound) × (length (now bound) ≡ 4096) × (n ≡ length (points-in (now points))) × Ordered n f × (at ≡ place n f) × (0 < q) ⌝ }
-    ensures { λ r. ⌜ Graded (job (job-lists (now (points .entry)) (now (triangles .entry)) (now (kept .entry)) (now (inner .entry)) (now (table .entry)))) q f r ⌝ }
+    requires { ⌜ (job-refusal (lent-job (now lists) (now ints)) ≡ 0) × Rows (points-in (lent (now ints) 0)) (now rows) × Bound-flags (job (lent-job (now lists) (now ints)) .triangles) (now bound) × (length (now bound) ≡ 4096) × (n ≡ length (points-in (lent (now ints) 0))) × Ordered n f × (at ≡ place n f) × (0 < q) ⌝ }
+    ensures { λ r. ⌜ Graded (job (lent-job (now (lists .entry)) (now (ints .entry)))) q f r ⌝ }
 {
+    let table = ints[TABLE];
     let e = table[at];
     if e <= 0 {
         return 0;
@@ -267,6 +271,10 @@ fn grade(
     if v < q {
         return 0;
     }
+    let points = ints[POINTS];
+    let triangles = lists[TRIANGLES];
+    let kept = lists[KEPT];
+    let inner = lists[INNER];
     if !can_stand(points, triangles, kept, inner, table, rows, bound, n, f) {
         return 0;
     }
@@ -275,11 +283,8 @@ fn grade(
 
 // The candidates of quality q at least.
 pub fn gather(
-    points: &[i32],
-    triangles: &[u8],
-    kept: &[u8],
-    inner: &[u8],
-    table: &[i32],
+    lists: &[&[u8]; 3],
+    ints: &[&[i32]; 2],
     rows: &[u16],
     bound: &[u16],
     q: u32,
@@ -287,9 +292,10 @@ pub fn gather(
     codes: &mut [u16; 7280],
     qualities: &mut [u32; 1820],
 ) -> usize
-    requires { ⌜ (job-refusal (job-lists (now points) (now triangles) (now kept) (now inner) (now table)) ≡ 0) × Rows (points-in (now points)) (now rows) × Bound-flags (job (job-lists (now points) (now triangles) (now kept) (now inner) (now table)) .triangles) (now bound) × (length (now bound) ≡ 4096) × (0 < q) × (length (now fours) ≡ 7280) × (length (now codes) ≡ 7280) × (length (now qualities) ≡ 1820) × (4 ≤ length (points-in (now points))) ⌝ }
-    ensures { λ r. ⌜ Whole (job-lists (now (points .entry)) (now (triangles .entry)) (now (kept .entry)) (now (inner .entry)) (now (table .entry))) q (now (fours .exit)) (now (codes .exit)) (now (qualities .exit)) r ⌝ }
+    requires { ⌜ (job-refusal (lent-job (now lists) (now ints)) ≡ 0) × Rows (points-in (lent (now ints) 0)) (now rows) × Bound-flags (job (lent-job (now lists) (now ints)) .triangles) (now bound) × (length (now bound) ≡ 4096) × (0 < q) × (length (now fours) ≡ 7280) × (length (now codes) ≡ 7280) × (length (now qualities) ≡ 1820) × (4 ≤ length (points-in (lent (now ints) 0))) ⌝ }
+    ensures { λ r. ⌜ Whole (lent-job (now (lists .entry)) (now (ints .entry))) q (now (fours .exit)) (now (codes .exit)) (now (qualities .exit)) r ⌝ }
 {
+    let points = ints[POINTS];
     let n = points.len() / 3;
     let mut f = Four {
         a: 0,
@@ -300,19 +306,7 @@ pub fn gather(
     let mut at: usize = 0;
     let mut k: usize = 0;
     while f.d < n {
-        let v = grade(
-            points,
-            triangles,
-            kept,
-            inner,
-            table,
-            rows,
-            bound,
-            n,
-            q,
-            f,
-            at,
-        );
+        let v = grade(lists, ints, rows, bound, n, q, f, at);
         if v > 0 {
             file(points, rows, fours, codes, qualities, k, f, v);
             k += 1;

@@ -136,12 +136,12 @@ const A: [u8; 12] = [0, 2, 1, 0, 1, 3, 0, 3, 2, 1, 2, 3];
 const CORNER: [u8; 4] = [0, 1, 2, 3];
 
 // A job, the number that the checker gives it, and the trial of it.
-fn limit(
-    points: &[i32],
-    triangles: &[u8],
-    kept: &[u8],
-    inner: &[u8],
-    table: &[i32],
+fn limit<'a, 'b>(
+    points: &'a [i32],
+    triangles: &'b [u8],
+    kept: &'b [u8],
+    inner: &'b [u8],
+    table: &'a [i32],
     chosen: &[u8],
     number: u32,
     tally: Counts,

@@ -23,13 +23,13 @@ use trials::tally::with_kind;
 use trials::tally::with_skipped;
 
 // Compares the search of a job into the buffer: the number, the worst quality and the list, with every byte of the buffer.
-pub fn searched(
+pub fn searched<'a, 'b>(
     seed: u64,
-    points: &[i32],
-    triangles: &[u8],
-    kept: &[u8],
-    inner: &[u8],
-    table: &[i32],
+    points: &'a [i32],
+    triangles: &'b [u8],
+    kept: &'b [u8],
+    inner: &'b [u8],
+    table: &'a [i32],
     number: u32,
     worst: u32,
     list: &[u8],
@@ -131,13 +131,13 @@ fn with_lists(
 }
 
 // An accepted job, with the fours of it that keep law 2. Where it has no lawful filling the best list is the empty one.
-fn accepted(
+fn accepted<'a, 'b>(
     seed: u64,
-    points: &[i32],
-    triangles: &[u8],
-    kept: &[u8],
-    inner: &[u8],
-    table: &[i32],
+    points: &'a [i32],
+    triangles: &'b [u8],
+    kept: &'b [u8],
+    inner: &'b [u8],
+    table: &'a [i32],
     chosen: &[u8],
     pool: &[u8],
     tally: Counts,
@@ -168,13 +168,13 @@ fn accepted(
 }
 
 // A job that is refused with this number.
-fn refused(
+fn refused<'a, 'b>(
     seed: u64,
-    points: &[i32],
-    triangles: &[u8],
-    kept: &[u8],
-    inner: &[u8],
-    table: &[i32],
+    points: &'a [i32],
+    triangles: &'b [u8],
+    kept: &'b [u8],
+    inner: &'b [u8],
+    table: &'a [i32],
     chosen: &[u8],
     number: u32,
     tally: Counts,
@@ -209,13 +209,13 @@ fn refused(
 }
 
 // Compares what the kernel says of one job with what the laws say.
-pub fn trial(
+pub fn trial<'a, 'b>(
     seed: u64,
-    points: &[i32],
-    triangles: &[u8],
-    kept: &[u8],
-    inner: &[u8],
-    table: &[i32],
+    points: &'a [i32],
+    triangles: &'b [u8],
+    kept: &'b [u8],
+    inner: &'b [u8],
+    table: &'a [i32],
     chosen: &[u8],
     tally: Counts,
 ) -> Counts {

@@ -61,12 +61,12 @@ pub extern "C" fn cottontuff_judge_inner(
 
 // The best filling, its bytes at the start of the answer; or a refusal, and the answer as it was.
 #[no_mangle]
-pub extern "C" fn cottontuff_search_inner(
-    points: &[i32],
-    triangles: &[u8],
-    kept: &[u8],
-    inner: &[u8],
-    table: &[i32],
+pub extern "C" fn cottontuff_search_inner<'a, 'b>(
+    points: &'a [i32],
+    triangles: &'b [u8],
+    kept: &'b [u8],
+    inner: &'b [u8],
+    table: &'a [i32],
     answer: &mut [u8],
 ) -> Found
     ensures { λ r. ⌜ Search-says (job-lists (now (points .entry)) (now (triangles .entry)) (now (kept .entry)) (now (inner .entry)) (now (table .entry))) r (now (answer .entry)) (now (answer .exit)) ⌝ }
@@ -101,11 +101,11 @@ pub extern "C" fn cottontuff_judge(
 }
 
 #[no_mangle]
-pub extern "C" fn cottontuff_search(
-    points: &[i32],
-    triangles: &[u8],
-    kept: &[u8],
-    table: &[i32],
+pub extern "C" fn cottontuff_search<'a, 'b>(
+    points: &'a [i32],
+    triangles: &'b [u8],
+    kept: &'b [u8],
+    table: &'a [i32],
     answer: &mut [u8],
 ) -> Found
     ensures { λ r. ⌜ Search-says (job-lists (now (points .entry)) (now (triangles .entry)) (now (kept .entry)) [] (now (table .entry))) r (now (answer .entry)) (now (answer .exit)) ⌝ }

@@ -7,3 +7,4 @@ pub mod Depth
 pub mod Tables
 pub mod Filing
 pub mod Clashes
+pub mod Lent

@@ -1,6 +1,6 @@
 // Choosing the next open face to own: one with the fewest alive owners. Which one is chosen is left free; that an open face without an owner is not overlooked is not.
 ghost use mathlib.Core.Path.{_≡_};
-ghost use Prim.Native.Nat.{_*_, _<_, _≤_};
+ghost use Prim.Native.Nat.{_<_};
 ghost use lib.ListN.{length};
 ghost use Rattle.fillings.specs.Tables.{All-below, Goes-on, On-boundary, Behind-set};
 ghost use Rattle.trail.specs.State.{marks-of, owners-of, held-of, Coded};
@@ -39,14 +39,7 @@ pub(crate) fn consider(
             count: 0,
         };
     }
-    if best.kind == 1 {
-        return Choice {
-            kind: 2,
-            face: c,
-            count: x,
-        };
-    }
-    if x < best.count {
+    if best.kind == 1 || x < best.count {
         return Choice {
             kind: 2,
             face: c,

@@ -3,16 +3,20 @@ ghost use mathlib.Core.Path.{_≡_};
 ghost use Prim.Native.Nat.{_<_};
 ghost use lib.ListN.{length, getD};
 ghost use Rattle.laws.specs.Laws.{fours-in};
-ghost use Rattle.laws.specs.Lists.{job-lists};
 ghost use Rattle.laws.specs.Check.{job};
+ghost use Rattle.fillings.specs.Lent.{lent-job, lent-codes};
 ghost use Rattle.fillings.specs.Steps.{Ready};
 ghost use Rattle.trail.specs.State.{marks-of, owners-of, held-of, trail-of, In-order, Held-same};
 ghost use Rattle.pruning.specs.Pruned.{Prunable};
-ghost use Rattle.propagation.specs.Prepared.{Prepared};
+ghost use Rattle.propagation.specs.Prepared.{Prepared-lent};
 ghost use Rattle.shaving.specs.Shaved.{Discarded, Refuted, Shaved};
 use placing::place::place;
 use propagation::propagate::propagate;
 use pruning::prune::prune_from;
+use trail::lent::BOUND;
+use trail::lent::CODES;
+use trail::lent::CORNERS;
+use trail::lent::PIERCING;
 use trail::marks::drop;
 use trail::marks::undo;
 use trail::marks::unset;
@@ -36,45 +40,24 @@ pub fn discard(
 
 // Whether setting the alive candidate k is seen to be hopeless. The state is as it was.
 pub(crate) fn is_refuted(
-    points: &[i32],
-    triangles: &[u8],
-    kept: &[u8],
-    inner: &[u8],
-    table: &[i32],
-    faces: &[[u16; 4096]; 3],
+    lists: &[&[u8]; 3],
+    ints: &[&[i32]; 2],
     fours: &[u8],
-    codes: &[u16],
-    corners: &[u16],
-    piercing: &[u16],
-    links: &[[u16; 7280]; 2],
+    tables: &[&[u16]; 6],
+    hints: &[[u16; 7280]; 2],
     m: usize,
-    watch: bool,
     k: usize,
     state: &mut [[u16; 4096]; 4],
     top: usize,
 ) -> bool
-    requires { ⌜ Prepared (job-lists (now points) (now triangles) (now kept) (now inner) (now table)) (now faces) (now fours) (now codes) m (now corners) (now piercing) × Ready (job (job-lists (now points) (now triangles) (now kept) (now inner) (now table))) (fours-in m (now fours)) (marks-of (now state)) × In-order m (now codes) (now state) top × (k < m) × (getD (marks-of (now state)) k 0 ≡ 1) ⌝ }
-    ensures { λ r. ⌜ Refuted (job (job-lists (now (points .entry)) (now (triangles .entry)) (now (kept .entry)) (now (inner .entry)) (now (table .entry)))) (fours-in m (now (fours .entry))) m k (marks-of (now (state .entry))) (owners-of (now (state .entry))) (held-of (now (state .entry))) (trail-of (now (state .entry))) top r (marks-of (now (state .exit))) (owners-of (now (state .exit))) (held-of (now (state .exit))) (trail-of (now (state .exit))) × (length (now (state .exit)) ≡ 4) ⌝ }
+    requires { ⌜ Prepared-lent (now lists) (now ints) (now fours) (now tables) m × Ready (job (lent-job (now lists) (now ints))) (fours-in m (now fours)) (marks-of (now state)) × In-order m (lent-codes (now tables)) (now state) top × (k < m) × (getD (marks-of (now state)) k 0 ≡ 1) ⌝ }
+    ensures { λ r. ⌜ Refuted (job (lent-job (now (lists .entry)) (now (ints .entry)))) (fours-in m (now (fours .entry))) m k (marks-of (now (state .entry))) (owners-of (now (state .entry))) (held-of (now (state .entry))) (trail-of (now (state .entry))) top r (marks-of (now (state .exit))) (owners-of (now (state .exit))) (held-of (now (state .exit))) (trail-of (now (state .exit))) × (length (now (state .exit)) ≡ 4) ⌝ }
 {
+    let codes = tables[CODES];
+    let corners = tables[CORNERS];
+    let piercing = tables[PIERCING];
     let end = place(codes, m, fours, corners, piercing, k, state, top);
-    let z = propagate(
-        points,
-        triangles,
-        kept,
-        inner,
-        table,
-        faces,
-        fours,
-        codes,
-        corners,
-        piercing,
-        links,
-        m,
-        watch,
-        top,
-        state,
-        end,
-    );
+    let z = propagate(lists, ints, fours, tables, hints, m, top, state, end);
     let kind = z.kind;
     undo(codes, m, top, z.top, state);
     unset(codes, m, k, state);
@@ -83,47 +66,23 @@ pub(crate) fn is_refuted(
 
 // Drops each alive candidate that is refuted.
 pub fn shave(
-    points: &[i32],
-    triangles: &[u8],
-    kept: &[u8],
-    inner: &[u8],
-    table: &[i32],
-    faces: &[[u16; 4096]; 3],
+    lists: &[&[u8]; 3],
+    ints: &[&[i32]; 2],
     fours: &[u8],
-    codes: &[u16],
-    corners: &[u16],
-    piercing: &[u16],
-    links: &[[u16; 7280]; 2],
+    tables: &[&[u16]; 6],
+    hints: &[[u16; 7280]; 2],
     m: usize,
-    watch: bool,
     state: &mut [[u16; 4096]; 4],
     top: usize,
 ) -> usize
-    requires { ⌜ Prepared (job-lists (now points) (now triangles) (now kept) (now inner) (now table)) (now faces) (now fours) (now codes) m (now corners) (now piercing) × Ready (job (job-lists (now points) (now triangles) (now kept) (now inner) (now table))) (fours-in m (now fours)) (marks-of (now state)) × In-order m (now codes) (now state) top ⌝ }
-    ensures { λ e. ⌜ Shaved (job (job-lists (now (points .entry)) (now (triangles .entry)) (now (kept .entry)) (now (inner .entry)) (now (table .entry)))) (fours-in m (now (fours .entry))) m (now (codes .entry)) (marks-of (now (state .entry))) (held-of (now (state .entry))) (trail-of (now (state .entry))) top (marks-of (now (state .exit))) (owners-of (now (state .exit))) (held-of (now (state .exit))) (trail-of (now (state .exit))) e × (length (now (state .exit)) ≡ 4) ⌝ }
+    requires { ⌜ Prepared-lent (now lists) (now ints) (now fours) (now tables) m × Ready (job (lent-job (now lists) (now ints))) (fours-in m (now fours)) (marks-of (now state)) × In-order m (lent-codes (now tables)) (now state) top ⌝ }
+    ensures { λ e. ⌜ Shaved (job (lent-job (now (lists .entry)) (now (ints .entry)))) (fours-in m (now (fours .entry))) m (lent-codes (now (tables .entry))) (marks-of (now (state .entry))) (held-of (now (state .entry))) (trail-of (now (state .entry))) top (marks-of (now (state .exit))) (owners-of (now (state .exit))) (held-of (now (state .exit))) (trail-of (now (state .exit))) e × (length (now (state .exit)) ≡ 4) ⌝ }
 {
     let mut end = top;
     for k in 0..m {
         if state[0][k] == 1 {
-            if is_refuted(
-                points,
-                triangles,
-                kept,
-                inner,
-                table,
-                faces,
-                fours,
-                codes,
-                corners,
-                piercing,
-                links,
-                m,
-                watch,
-                k,
-                state,
-                end,
-            ) {
-                end = discard(codes, &faces[2], links, m, k, state, end);
+            if is_refuted(lists, ints, fours, tables, hints, m, k, state, end) {
+                end = discard(tables[CODES], tables[BOUND], hints, m, k, state, end);
             }
         }
     }

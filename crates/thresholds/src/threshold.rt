@@ -182,22 +182,11 @@ pub(crate) fn upper_bound(
     let mut low = most / 3;
     let mut high = most + 1;
     begin(codes, qualities, m, low, state);
-    let mut top = sweep(codes, bound, links, m, state, 0);
+    let mut at = sweep(codes, bound, links, m, state, 0);
     let mut q = most;
     while low < q {
-        let r = tighten(
-            codes,
-            qualities,
-            m,
-            boundary,
-            n,
-            bound,
-            links,
-            q,
-            state,
-            top,
-        );
-        top = r.top;
+        let r = tighten(codes, qualities, m, boundary, n, bound, links, q, state, at);
+        at = r.top;
         if r.hopeless {
             high = q;
         } else {

@@ -2,4 +2,5 @@
 // Assumes nothing. Each function asks for the counts to be right, and leaves them right.
 pub mod codes;
 pub mod counts;
+pub mod lent;
 pub mod marks;

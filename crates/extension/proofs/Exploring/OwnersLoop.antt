@@ -11,17 +11,18 @@ use Rattle.laws.specs.Lists.{Lists}
 use Rattle.laws.specs.Check.{job}
 use Rattle.fillings.specs.Marks.{Reduced}
 use Rattle.fillings.specs.Codes.{Owns}
-use Rattle.fillings.specs.Steps.{Context}
+use Rattle.fillings.specs.Steps.{Ready}
 use Rattle.fillings.proofs.ByNumber.FaceLoop.{Tried, tried-start, tried-skip, tried-reduced}
 use Rattle.fillings.proofs.ByNumber.Reduction.{reduced-failed}
-use Rattle.fillings.proofs.ByCode.Context.{context-count}
 use Rattle.trail.specs.Counts.{Counts}
-use Rattle.trail.specs.State.{marks-of, owners-of, held-of, trail-of, Living, In-order, Held-same, Trailed}
+use Rattle.trail.specs.State.{marks-of, owners-of, held-of, trail-of, Living, In-order, Trailed}
 use Rattle.trail.proofs.Tracing.{traced-counts}
 use Rattle.trail.proofs.Trailing.{trailed-none, trailed-trans}
-use Rattle.shaving.specs.Shaved.{Discarded, As-it-was, Shaved}
+use Rattle.propagation.specs.Prepared.{Prepared}
+use Rattle.shaving.specs.Shaved.{As-it-was, Shaved}
 use Rattle.extension.specs.Explored.{Explored-corner}
-use Rattle.shaving.proofs.Shaving.TakingBack.{trailed-back}
+use Rattle.shaving.proofs.Shaving.Calls.{below-count, in-order-back}
+use Rattle.shaving.proofs.Shaving.TakingBack.{alive-back, trailed-back}
 
 -- the owners of the face `at` among the first k tried, from the marks ms
 pub record Exploring (j : Job) (cs : List Four) (m : ℕ) (codes : List ℕ) (at : ℕ) (ms held tr : List ℕ) (top : ℕ) (ns ow held-now ur : List ℕ) (end k : ℕ) : Type 0 where
@@ -42,21 +43,16 @@ module _ {j : Job} {cs : List Four} {m : ℕ} {codes : List ℕ} {at : ℕ} {ms 
   pub exploring-back : {ls ow2 held2 vr : List ℕ} → As-it-was m ns ow held1 ur end ls ow2 held2 vr → Exploring j cs m codes at ms held tr top ls ow2 held2 vr end k
   exploring-back b = record { trailed = trailed-back b (s .trailed); set = b .set ∙ s .set; tried = subst (λ (xs : List ℕ). Tried j cs codes at ms xs k) (sym (b .marks)) (s .tried) }
 
--- an owner failed, and was dropped
-pub exploring-failed :
-    {L : Lists} {m : ℕ} {fours codes bound : List ℕ} {at : ℕ} {ms held tr : List ℕ} {top : ℕ} {ns ow held1 ur ls ow2 held2 vr : List ℕ} {end k : ℕ} {found : Bool} {xs ow3 wr : List ℕ} {last : ℕ} →
-    Context L fours codes bound m → k < m → getD ns k 0 ≡ 1 → Counts 2 m codes ms held → found ≡ false →
-    Explored-corner (job L) (fours-in m fours) m k ns ow held1 ur end found ls ow2 held2 vr → Discarded m codes bound held2 ls vr end k xs ow3 wr last →
-    Exploring (job L) (fours-in m fours) m codes at ms held tr top ns ow held1 ur end k →
-    Exploring (job L) (fours-in m fours) m codes at ms held tr top xs ow3 held2 wr last (k + 1)
-exploring-failed {L} {m} {fours} {codes} {bound} {ns = ns} {k = k} {xs = xs} x l a g e r d s =
-    let b = exploring-back s (r .back e) in
-    let drop = reduced-failed ns k (rw (context-count x) l) a e (r .cornered) in
-    let fewer = d .reduced L fours x (exploring-counts b g) (subst (λ (ys : List ℕ). Reduced (job L) (fours-in m fours) ys (set ys k 0)) (sym (r .back e .marks)) drop) in
-    record { trailed = trailed-trans (b .trailed) (d .trailed); set = b .set; tried = tried-skip (λ y o. dead (d .gone) y) (tried-reduced (omega (arith, context-count x)) fewer (b .tried)) }
-  where
-    dead : {v : ℕ} → v ≡ 0 → v ≡ 1 → ⊥
-    dead p q = omega arith
+  -- set, failed and taken back, and dropped
+  pub exploring-failed :
+      {ls ow2 held2 vr xs ow3 held3 wr : List ℕ} {last : ℕ} → k ≤ length cs → As-it-was m ns ow held1 ur end ls ow2 held2 vr →
+      Shaved j cs m codes ls held2 vr end xs ow3 held3 wr last → getD xs k 0 ≡ 0 → Exploring j cs m codes at ms held tr top xs ow3 held3 wr last (k + 1)
+  exploring-failed l b d e =
+      let t = exploring-back b in
+      record { trailed = trailed-trans (t .trailed) (d .trailed); set = d .set ∙ t .set; tried = tried-skip (λ y o. dead e y) (tried-reduced l (d .reduced) (t .tried)) }
+    where
+      dead : {v : ℕ} → v ≡ 0 → v ≡ 1 → ⊥
+      dead p q = omega arith
 
 -- ---- the same from state to state
 pub exploring-start :
@@ -69,25 +65,30 @@ pub exploring-in-order :
     Exploring j cs m codes at (marks-of old) (held-of old) (trail-of old) top (marks-of new) (owners-of new) (held-of new) (trail-of new) end k → In-order m codes new end
 exploring-in-order old g r s = record { rows = r; living = s .trailed .living; holds = exploring-counts s g }
 
-pub exploring-discarded :
-    {L : Lists} {m : ℕ} {fours codes bound : List ℕ} {at : ℕ} (old now : List (List ℕ)) {tried new : List (List ℕ)} {top end k : ℕ} {found : Bool} {last : ℕ} →
-    Context L fours codes bound m → k < m → getD (marks-of now) k 0 ≡ 1 → Counts 2 m codes (marks-of old) (held-of old) → found ≡ false →
+-- an owner failed: what `retreat` asks for
+pub can-retreat :
+    {L : Lists} {faces : List (List ℕ)} {fours codes : List ℕ} {m : ℕ} {corners piercing : List ℕ} {now tried : List (List ℕ)} {end k : ℕ} {found : Bool} →
+    Prepared L faces fours codes m corners piercing → Ready (job L) (fours-in m fours) (marks-of now) → In-order m codes now end → k < m → getD (marks-of now) k 0 ≡ 1 → found ≡ false →
     Explored-corner (job L) (fours-in m fours) m k (marks-of now) (owners-of now) (held-of now) (trail-of now) end found (marks-of tried) (owners-of tried) (held-of tried) (trail-of tried) →
-    Discarded m codes bound (held-of tried) (marks-of tried) (trail-of tried) end k (marks-of new) (owners-of new) (trail-of new) last → Held-same tried new →
-    Exploring (job L) (fours-in m fours) m codes at (marks-of old) (held-of old) (trail-of old) top (marks-of now) (owners-of now) (held-of now) (trail-of now) end k →
-    (length new ≡ 4) × Exploring (job L) (fours-in m fours) m codes at (marks-of old) (held-of old) (trail-of old) top (marks-of new) (owners-of new) (held-of new) (trail-of new) last (k + 1)
-exploring-discarded old now x l a g e r d h s =
-    let t = exploring-failed x l a g e r d s in
-    (h .rows, record { trailed = t .trailed; set = h .held ∙ t .set; tried = t .tried })
+    length tried ≡ 4 →
+    Prepared L faces fours codes m corners piercing × Ready (job L) (fours-in m fours) (marks-of tried) × In-order m codes tried end × (k < m) × (getD (marks-of tried) k 0 ≡ 1) × Reduced (job L) (fours-in m fours) (marks-of tried) (set (marks-of tried) k 0)
+can-retreat {L} {fours = fours} {m = m} {now = now} {k = k} p y o l a e r n =
+    let b = r .back e in (
+      p,
+      subst (Ready (job L) (fours-in m fours)) (sym (b .marks)) y,
+      in-order-back b n o,
+      l,
+      alive-back k b a,
+      subst (λ (ys : List ℕ). Reduced (job L) (fours-in m fours) ys (set ys k 0)) (sym (b .marks)) (reduced-failed (marks-of now) k (below-count p l) a e (r .cornered)),
+    )
 
--- others dropped beside the loop
-pub exploring-shaved :
-    {j : Job} {cs : List Four} {m : ℕ} {codes : List ℕ} {at : ℕ} (old now new : List (List ℕ)) {top end last k : ℕ} → k ≤ length cs →
+pub exploring-retreated :
+    {j : Job} {cs : List Four} {m : ℕ} {codes : List ℕ} {at : ℕ} (old now tried new : List (List ℕ)) {top end k : ℕ} {found : Bool} {last : ℕ} → k ≤ length cs → found ≡ false →
+    Explored-corner j cs m k (marks-of now) (owners-of now) (held-of now) (trail-of now) end found (marks-of tried) (owners-of tried) (held-of tried) (trail-of tried) →
+    Shaved j cs m codes (marks-of tried) (held-of tried) (trail-of tried) end (marks-of new) (owners-of new) (held-of new) (trail-of new) last → getD (marks-of new) k 0 ≡ 0 → length new ≡ 4 →
     Exploring j cs m codes at (marks-of old) (held-of old) (trail-of old) top (marks-of now) (owners-of now) (held-of now) (trail-of now) end k →
-    Shaved j cs m codes (marks-of now) (held-of now) (trail-of now) end (marks-of new) (owners-of new) (held-of new) (trail-of new) last → length new ≡ 4 →
-    (length new ≡ 4) × Exploring j cs m codes at (marks-of old) (held-of old) (trail-of old) top (marks-of new) (owners-of new) (held-of new) (trail-of new) last k
-exploring-shaved old now new l s d r =
-    (r, record { trailed = trailed-trans (s .trailed) (d .trailed); set = d .set ∙ s .set; tried = tried-reduced l (d .reduced) (s .tried) })
+    (length new ≡ 4) × Exploring j cs m codes at (marks-of old) (held-of old) (trail-of old) top (marks-of new) (owners-of new) (held-of new) (trail-of new) last (k + 1)
+exploring-retreated old now tried new l e r d g n s = (n, exploring-failed s l (r .back e) d g)
 
 -- one step of the loop, whose state has the new one's value
 pub exploring-step :

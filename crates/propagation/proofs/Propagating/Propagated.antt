@@ -1,10 +1,12 @@
 -- What is said of a state as it is: hopeless, a filling, or with an open face to own next; and of a state that was pruned to it. Assumes nothing.
-use mathlib.Core.Path.{_≡_, sym, subst}
+use mathlib.Core.Path.{_≡_, refl, sym, subst}
+use mathlib.Core.Bool.{Bool, true, false, cond}
 use mathlib.Core.List.{List}
 use Prim.Native.Nat.{ℕ, _/_}
 use lib.ListN.{length}
 use Rattle.geometry.specs.Space.{points-in}
-use Rattle.laws.specs.Laws.{fours-in}
+use Rattle.geometry.specs.declared.tetrahedron.Four.{Four}
+use Rattle.laws.specs.Laws.{Job, fours-in}
 use Rattle.laws.specs.Lists.{Lists}
 use Rattle.laws.specs.Check.{job}
 use Rattle.fillings.specs.Marks.{Reduced, All-apart}
@@ -65,6 +67,22 @@ module _ {L : Lists} {fours codes bound : List ℕ} {m : ℕ} (x : Context L fou
               All-linked (length (L .points) / 3) (L .kept) flags → All-faced (L .inner) held held → All-apart (points-in (L .points)) (fours-in m fours) ms m → Ready (job L) (fours-in m fours) ms →
               Propagates (job L) (fours-in m fours) ms 1 0 ms
           assessed-filling u i c r = propagates-linked x same set-flags a b y e l r (closed-law-5 x c) u (faced-kept x set-flags i)
+
+-- ---- no open face: a test of the set candidates
+module _ {j : Job} {cs : List Four} {ms : List ℕ} where
+  -- what it says, by its answer
+  pub assessed-closed : (r : Bool) → (r ≡ true → Propagates j cs ms 1 0 ms) → (r ≡ false → Propagates j cs ms 0 0 ms) → Propagates j cs ms (cond r 1 0) 0 ms
+  assessed-closed true y n = y refl
+  assessed-closed false y n = n refl
+
+  -- what it says of every choice without an open face it says of the choice that was made
+  pub assessed-none :
+      {held bound owners : List ℕ} {first behind : ℕ → Type 0} {k₁ f₁ k f : ℕ} {r b : Bool} → Goes-on held bound owners first 1 0 k₁ f₁ → Goes-on held bound owners behind k₁ f₁ k f →
+      k ≡ 1 → r ≡ b →
+      ((kind face last : ℕ) → Goes-on held bound owners first 1 0 kind face → Goes-on held bound owners behind kind face 1 last → Propagates j cs ms (cond r 1 0) 0 ms) →
+      Propagates j cs ms (cond b 1 0) 0 ms
+  assessed-none {held} {bound} {owners} {behind = behind} {k₁ = k₁} {f₁ = f₁} {f = f} a c e d says =
+      subst (λ (t : Bool). Propagates j cs ms (cond t 1 0) 0 ms) d (says k₁ f₁ f a (subst (λ (n : ℕ). Goes-on held bound owners behind k₁ f₁ n f) e c))
 
 -- ---- the marks ms pruned to ns
 module _

@@ -17,7 +17,7 @@ use Rattle.pruning.specs.Pruned.{Pruned, Pruned-state}
 use Rattle.shaving.specs.Shaved.{Discarded}
 
 -- what is gone stays so
-traced-gone : {m : ℕ} {tr : List ℕ} {from to : ℕ} {ms ns : List ℕ} → Traced m tr from to ms ns → (k : ℕ) → getD ms k 0 ≡ 0 → getD ns k 0 ≡ 0
+pub traced-gone : {m : ℕ} {tr : List ℕ} {from to : ℕ} {ms ns : List ℕ} → Traced m tr from to ms ns → (k : ℕ) → getD ms k 0 ≡ 0 → getD ns k 0 ≡ 0
 traced-gone nothing k e = e
 traced-gone {tr = tr} (dropped {to = to} {ns = ns} t b a) k e = go (ℕ-discrete k (getD tr to 0)) (traced-gone t k e)
   where

@@ -44,22 +44,29 @@ pub shaved-back :
 shaved-back {j} {cs} {ms = ms} b s =
     record { trailed = trailed-back b (s .trailed); reduced = subst (λ (xs : List ℕ). Reduced j cs ms xs) (sym (b .marks)) (s .reduced); set = b .set ∙ s .set }
 
+pub shaved-trans :
+    {j : Job} {cs : List Four} {m : ℕ} {codes ms held tr : List ℕ} {top : ℕ} {ns ow held1 ur : List ℕ} {mid : ℕ} {ls ow2 held2 vr : List ℕ} {end : ℕ} →
+    Shaved j cs m codes ms held tr top ns ow held1 ur mid → Shaved j cs m codes ns held1 ur mid ls ow2 held2 vr end → Shaved j cs m codes ms held tr top ls ow2 held2 vr end
+shaved-trans s t = record { trailed = trailed-trans (s .trailed) (t .trailed); reduced = reduced-trans (s .reduced) (t .reduced); set = t .set ∙ s .set }
+
+-- one candidate whose drop loses no filling, dropped with what falls with it
+pub shaved-one :
+    {L : Lists} {m : ℕ} {fours codes bound ms held tr : List ℕ} {top k : ℕ} {ns ow held1 ur : List ℕ} {end : ℕ} → Context L fours codes bound m → Counts 2 m codes ms held →
+    Reduced (job L) (fours-in m fours) ms (set ms k 0) → Discarded m codes bound held ms tr top k ns ow ur end → held1 ≡ held →
+    Shaved (job L) (fours-in m fours) m codes ms held tr top ns ow held1 ur end
+shaved-one {L} {fours = fours} x g r d h = record { trailed = d .trailed; reduced = d .reduced L fours x g r; set = h }
+
 -- refuted, and dropped
 pub shaved-refuted :
-    {L : Lists} {m : ℕ} {fours codes bound ms held tr : List ℕ} {top : ℕ} {ns ow held1 ur ls ow2 held2 vr : List ℕ} {end k : ℕ} {found : Bool} {xs ow3 wr : List ℕ} {last : ℕ} →
+    {L : Lists} {m : ℕ} {fours codes bound ms held tr : List ℕ} {top : ℕ} {ns ow held1 ur ls ow2 held2 vr : List ℕ} {end k : ℕ} {found : Bool} {xs ow3 held3 wr : List ℕ} {last : ℕ} →
     Context L fours codes bound m → k < m → getD ns k 0 ≡ 1 → Counts 2 m codes ms held → found ≡ true →
-    Refuted (job L) (fours-in m fours) m k ns ow held1 ur end found ls ow2 held2 vr → Discarded m codes bound held2 ls vr end k xs ow3 wr last →
+    Refuted (job L) (fours-in m fours) m k ns ow held1 ur end found ls ow2 held2 vr → Discarded m codes bound held2 ls vr end k xs ow3 wr last → held3 ≡ held2 →
     Shaved (job L) (fours-in m fours) m codes ms held tr top ns ow held1 ur end →
-    Shaved (job L) (fours-in m fours) m codes ms held tr top xs ow3 held2 wr last
-shaved-refuted {L} {m} {fours} {codes} {ns = ns} {ls = ls} {k = k} x l a g e r d s =
+    Shaved (job L) (fours-in m fours) m codes ms held tr top xs ow3 held3 wr last
+shaved-refuted {L} {m} {fours} {ns = ns} {k = k} x l a g e r d h s =
     let b = shaved-back (r .back) s in
     let drop = reduced-drop ns k (rw (context-count x) l) a (λ F f i n. r .useless e F f i) in
-    record {
-      trailed = trailed-trans (b .trailed) (d .trailed);
-      reduced = reduced-trans (b .reduced)
-          (d .reduced L fours x (shaved-counts g b) (subst (λ (ys : List ℕ). Reduced (job L) (fours-in m fours) ys (set ys k 0)) (sym (r .back .marks)) drop));
-      set = b .set;
-    }
+    shaved-trans b (shaved-one x (shaved-counts g b) (subst (λ (ys : List ℕ). Reduced (job L) (fours-in m fours) ys (set ys k 0)) (sym (r .back .marks)) drop) d h)
 
 -- ---- the same from state to state
 pub shaved-in-order :
@@ -81,9 +88,7 @@ pub shaved-discarded :
     Discarded m codes bound (held-of tried) (marks-of tried) (trail-of tried) end k (marks-of new) (owners-of new) (trail-of new) last → Held-same tried new →
     Shaved (job L) (fours-in m fours) m codes (marks-of old) (held-of old) (trail-of old) top (marks-of now) (owners-of now) (held-of now) (trail-of now) end →
     (length new ≡ 4) × Shaved (job L) (fours-in m fours) m codes (marks-of old) (held-of old) (trail-of old) top (marks-of new) (owners-of new) (held-of new) (trail-of new) last
-shaved-discarded old now x l a g e r d h s =
-    let t = shaved-refuted x l a g e r d s in
-    (h .rows, record { trailed = t .trailed; reduced = t .reduced; set = h .held ∙ t .set })
+shaved-discarded old now x l a g e r d h s = (h .rows, shaved-refuted x l a g e r d (h .held) s)
 
 -- one step of the loop, whose state has the new one's value
 pub shaved-step :

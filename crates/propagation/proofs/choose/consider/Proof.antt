@@ -32,10 +32,7 @@ returns-4 : tie.Need-returns-4
 returns-4 c = let e = c .before .before .before .before in choice-open (start e .pre .0) (sym (e .before .is-open .ensures) ∙ not-false (e .before .is-open .result) (e .if2 .left))
 
 returns-5 : tie.Need-returns-5
-returns-5 c = let e = c .before .before .before .before .before .before in choice-open (start e .pre .0) (sym (e .before .is-open .ensures) ∙ not-false (e .before .is-open .result) (e .if2 .left))
-
-returns-6 : tie.Need-returns-6
-returns-6 c = choice-kept (c .before .before .before .before .before .before .before .before .if1 .left) (c .before .before .if4 .left)
+returns-5 c = choice-kept (c .before .before .before .before .before .before .before .before .if1 .left) (c .before .before .if4 .left)
 
 pub consider-spec : {M : Type 1} → statement M
 consider-spec =
@@ -48,5 +45,4 @@ consider-spec =
     shared-slice-read-x
     returns-3
     returns-4
-    returns-5
-    returns-6)
+    returns-5)

@@ -7,6 +7,7 @@ use native.Mathlib.Omega.{arith}
 use borrow.Author.Tests.{not-true, not-false}
 use Rattle.geometry.specs.Space.{points-in}
 use Rattle.laws.specs.Laws.{fours-in}
+use Rattle.fillings.specs.Lent.{lent}
 use Rattle.fillings.specs.Marks.{All-apart}
 use Rattle.fillings.proofs.ByNumber.AllApart.{all-apart-none, all-apart-next}
 use Rattle.propagation.specs.Propagation.{Apart-below}
@@ -14,14 +15,14 @@ use Rattle.propagation.proofs.closed.all_apart.Statement.{statement}
 use Rattle.propagation.proofs.closed.all_apart.Tie as tie
 
 abbrev Inv-loop : tie.InvT-loop
-Inv-loop points triangles kept inner table rows fours codes bound m marks k₀ k = (k ≤ m) × All-apart (points-in points) (fours-in m fours) marks k
+Inv-loop lists ints fours tables m marks k₀ k = (k ≤ m) × All-apart (points-in (lent ints 0)) (fours-in m fours) marks k
 
 abbrev μ-loop : tie.MeasureT-loop
-μ-loop points triangles kept inner table rows fours codes bound m marks k₀ k = m - k
+μ-loop lists ints fours tables m marks k₀ k = m - k
 
 -- the start, from the loop
 abbrev start : tie.At-loop Inv-loop μ-loop → tie.Start Inv-loop μ-loop
-start l = l .before .before .before .before .before .before .before .before .before
+start l = l .before .before .before
 
 loop-holds : tie.Need-loop-holds Inv-loop μ-loop
 loop-holds c = (omega arith, all-apart-none _ _ _)

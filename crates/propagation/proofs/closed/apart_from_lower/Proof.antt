@@ -5,6 +5,7 @@ use mathlib.Core.Logic.{⊎-elim}
 use Prim.Native.Nat.{_-_, _≤_}
 use native.Mathlib.Omega.{arith}
 use borrow.Author.Tests.{not-true, not-false}
+use borrow.Author.Needs.{needs}
 use Rattle.geometry.specs.Space.{points-in}
 use Rattle.laws.specs.Laws.{fours-in}
 use Rattle.fillings.proofs.ByCode.Companions.{member-present}
@@ -14,20 +15,26 @@ use Rattle.propagation.proofs.closed.apart_from_lower.Statement.{statem
 use Rattle.propagation.proofs.closed.apart_from_lower.Tie as tie
 
 abbrev Inv-loop : tie.InvT-loop
-Inv-loop points triangles kept inner table rows fours codes bound m marks k g i₀ i = (i ≤ k) × Apart-from (points-in points) (fours-in m fours) marks g i
+Inv-loop lists ints fours tables m marks k points rows g i₀ i = (i ≤ k) × Apart-from (points-in points) (fours-in m fours) marks g i
 
 abbrev μ-loop : tie.MeasureT-loop
-μ-loop points triangles kept inner table rows fours codes bound m marks k g i₀ i = k - i
+μ-loop lists ints fours tables m marks k points rows g i₀ i = k - i
 
 -- the start, from the candidate k; the loop, from a set candidate
 abbrev start : tie.After-four-at Inv-loop μ-loop → tie.Start Inv-loop μ-loop
-start c = c .before .before .before .before .before .before .before .before .before
+start c = c .before .before .before .before .before
 
 abbrev at-loop : tie.Then1 Inv-loop μ-loop → tie.At-loop Inv-loop μ-loop
 at-loop c = c .before .before .before
 
+element-copy-out-points : tie.Need-element-copy-out-points Inv-loop μ-loop
+element-copy-out-points c = search needs
+
+element-copy-out-rows : tie.Need-element-copy-out-rows Inv-loop μ-loop
+element-copy-out-rows c = search needs
+
 four-at-requires : tie.Need-four-at-requires Inv-loop μ-loop
-four-at-requires c κs = let x = c .before .before .before .before .before .before .before .before .pre .0 in (omega arith, x .few, x .long)
+four-at-requires c κs = let x = c .before .before .before .before .pre .0 in (omega arith, x .few, x .long)
 
 loop-holds : tie.Need-loop-holds Inv-loop μ-loop
 loop-holds c = (omega arith, apart-from-none)
@@ -81,6 +88,8 @@ apart-from-lower-spec =
     (tie.spec
     Inv-loop
     μ-loop
+    element-copy-out-points
+    element-copy-out-rows
     four-at-requires
     loop-holds
     mul-if1

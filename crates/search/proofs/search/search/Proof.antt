@@ -55,16 +55,16 @@ returns-3 c =
 
 search-accepted-requires : tie.Need-search-accepted-requires
 search-accepted-requires c κs =
-    let e = c .before .before in (not-refused e, e .if2 .left, points-some (the-lists (start e)) (not-refused e) (c .before .if3 .left))
+    let e = c .before .before .before .before in (not-refused e, e .if2 .left, points-some (the-lists (start e)) (not-refused e) (c .before .before .before .if3 .left))
 
 same-length : tie.Need-same-length
 same-length c = search needs
 
 returns-4 : tie.Need-returns-4
 returns-4 c =
-    let e = c .before .before .before .before .before in
+    let e = c .before .before .before .before .before .before .before in
     let s = start e in
-    says-searched (the-lists s) (e .before .before .check-job .result) (c .before .before .search-accepted .result) (s .args .answer .now) (c .before .before .search-accepted .last .1 .1 .1 .1 .1 .0) (e .before .before .check-job .ensures) (e .before .if1 .left) (e .if2 .left) (c .before .before .search-accepted .ensures)
+    says-searched (the-lists s) (e .before .before .check-job .result) (c .before .before .search-accepted .result) (s .args .answer .now) (c .before .before .search-accepted .last .1 .1 .0) (e .before .before .check-job .ensures) (e .before .if1 .left) (e .if2 .left) (c .before .before .search-accepted .ensures)
 
 pub search-spec : {M : Type 1} → statement M
 search-spec =

@@ -2,36 +2,42 @@
 use mathlib.Core.Path.{_≡_, sym, _∙_}
 use Prim.Native.Nat.{ℕ}
 use native.Mathlib.Omega.{arith}
-use borrow.Author.Needs.{length-unmapped}
+use borrow.Author.Needs.{needs, length-unmapped}
 use lib.ListN.{length, length-replicate}
 use Rattle.laws.specs.Check.{job}
-use Rattle.laws.specs.Lists.{job-lists}
 use Rattle.laws.proofs.Choice.Conditions.{accepted}
 use Rattle.fillings.specs.Codes.{Bound-flags}
+use Rattle.fillings.specs.Lent.{lent-job}
 use Rattle.fillings.proofs.ByCode.BoundaryCodes.{accepted-points-few, accepted-triangles-below-16, accepted-triangles-few, boundary-code-flags}
 use Rattle.search.proofs.search.search_accepted.Statement.{statement}
 use Rattle.search.proofs.search.search_accepted.Tie as tie
 
 -- the flags of the boundary are right
-flags : (c : tie.After-named) → let x = c .before .before .before .before .before .before .before .before .before .before .before .args in Bound-flags (job (job-lists (x .points .now) (x .triangles .now) (x .kept .now) (x .inner .now) (x .table .now)) .triangles) (c .named .result .flag) × (length (c .named .result .flag) ≡ 4096)
+flags : (c : tie.After-named) → let x = c .before .before .before .before .before .before .before .before .before .before .args in Bound-flags (job (lent-job (x .lists .now) (x .ints .now)) .triangles) (c .named .result .flag) × (length (c .named .result .flag) ≡ 4096)
 flags c =
-    let x = c .before .before .before .before .before .before .before .before .before .before .before .args in
-    (boundary-code-flags (job-lists (x .points .now) (x .triangles .now) (x .kept .now) (x .inner .now) (x .table .now)) (c .before .before .before .boundary-codes .ensures .0) (c .named .ensures), length-unmapped ℕ (c .named .result .flag) 4096 (c .named .ok .1 .1 .0 .1 .0 .1))
+    let x = c .before .before .before .before .before .before .before .before .before .before .args in
+    (boundary-code-flags (lent-job (x .lists .now) (x .ints .now)) (c .before .before .before .boundary-codes .ensures .0) (c .named .ensures), length-unmapped ℕ (c .named .result .flag) 4096 (c .named .ok .1 .1 .0 .1 .0 .1))
+
+element-copy-out-triangles : tie.Need-element-copy-out-triangles
+element-copy-out-triangles c = search needs
+
+element-copy-out-fill-rows : tie.Need-element-copy-out-fill-rows
+element-copy-out-fill-rows c = search needs
 
 slice-aggregate-fill-rows : tie.Need-slice-aggregate-fill-rows
 slice-aggregate-fill-rows c = sym (length-replicate {A = ℕ} 4096 0)
 
 fill-rows-requires : tie.Need-fill-rows-requires
 fill-rows-requires c κs =
-    let x = c .before .before .before .before .before .args in
-    let l = job-lists (x .points .now) (x .triangles .now) (x .kept .now) (x .inner .now) (x .table .now) in
-    let a = c .before .before .before .before .before .pre .0 in (accepted l a .near, accepted-points-few l a, length-replicate {A = ℕ} 4096 0)
+    let x = c .before .before .before .before .args in
+    let l = lent-job (x .lists .now) (x .ints .now) in
+    let a = c .before .before .before .before .pre .0 in (accepted l a .near, accepted-points-few l a, length-replicate {A = ℕ} 4096 0)
 
 boundary-codes-requires : tie.Need-boundary-codes-requires
 boundary-codes-requires c κs =
-    let x = c .before .before .before .before .before .before .before .args in
-    let l = job-lists (x .points .now) (x .triangles .now) (x .kept .now) (x .inner .now) (x .table .now) in
-    let a = c .before .before .before .before .before .before .before .pre .0 in (accepted-triangles-few l a, accepted-triangles-below-16 l a)
+    let x = c .before .before .before .before .before .before .args in
+    let l = lent-job (x .lists .now) (x .ints .now) in
+    let a = c .before .before .before .before .before .before .pre .0 in (accepted-triangles-few l a, accepted-triangles-below-16 l a)
 
 slice-aggregate-named : tie.Need-slice-aggregate-named
 slice-aggregate-named c = let b = c .before .before .boundary-codes in sym (length-unmapped ℕ (b .result .code) 4096 (b .ok .1 .1 .0 .1 .0 .1))
@@ -47,17 +53,17 @@ slice-aggregate-gather-2 c = sym (flags (c .before .before .before) .1)
 
 gather-requires : tie.Need-gather-requires
 gather-requires c κs =
-    let p = c .before .before .before .before .before .before .before .before .before .before .before .before .before .before .before .before .before .pre in
+    let p = c .before .before .before .before .before .before .before .before .before .before .before .before .before .before .before .before .pre in
     let f = flags (c .before .before .before .before .before .before) in
     (p .0, c .before .before .before .before .before .before .before .before .before .before .before .fill-rows .ensures, f .0, f .1, omega arith, length-replicate {A = ℕ} 7280 0, length-replicate {A = ℕ} 7280 0, length-replicate {A = ℕ} 1820 0, p .2)
 
 search-candidates-requires : tie.Need-search-candidates-requires
 search-candidates-requires c κs =
-    let p = c .before .before .before .before .before .before .before .before .before .before .before .before .before .before .before .before .before .before .before .before .before .before .before .pre in
+    let p = c .before .before .before .before .before .before .before .before .before .before .before .before .before .before .before .before .before .before .before .before .before .before .pre in
     let f = flags (c .before .before .before .before .before .before .before .before .before .before .before .before) in (p .0, c .before .before .before .before .before .before .before .before .before .before .before .before .before .before .before .boundary-codes .ensures .0, f .0, f .1, c .before .before .before .before .before .before .before .before .before .before .before .before .before .before .before .before .before .fill-rows .ensures, c .before .before .before .before .before .gather .ensures, p .1)
 
 same-length : tie.Need-same-length
-same-length c = c .before .before .search-candidates .kept .1 .1 .1 .1 .1 .1 .1 .1 .1 .1 .0
+same-length c = c .before .before .search-candidates .kept .1 .1 .1 .1 .1 .1 .1 .0
 
 returns : tie.Need-returns
 returns c = c .before .before .search-candidates .ensures
@@ -66,6 +72,8 @@ pub search-accepted-spec : {M : Type 1} → statement M
 search-accepted-spec =
     tie.close
     (tie.spec
+    element-copy-out-triangles
+    element-copy-out-fill-rows
     slice-aggregate-fill-rows
     fill-rows-requires
     boundary-codes-requires

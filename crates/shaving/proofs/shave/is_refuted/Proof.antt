@@ -1,6 +1,7 @@
 -- `shaving::shave::is_refuted` meets its contract. Assumes nothing.
 use mathlib.Core.List.{List}
 use Prim.Native.Nat.{ℕ}
+use borrow.Author.Needs.{needs}
 use borrow.Author.Tests.{eqb-true}
 use Rattle.shaving.proofs.shave.is_refuted.Statement.{statement}
 use Rattle.shaving.proofs.shave.is_refuted.Tie as tie
@@ -12,7 +13,7 @@ use Rattle.shaving.proofs.Shaving.ShaveLoop.{hopeless-useless}
 
 -- the places before: the start, the calls
 abbrev start : tie.After-place → tie.Start
-start p = p .before .before .before .before .before .before .before .before .before
+start p = p .before .before .before .before .before .before
 
 abbrev placing : tie.After-propagate → tie.After-place
 placing z = z .before .before
@@ -31,13 +32,22 @@ abbrev placed : tie.After-place → List (List ℕ)
 placed p = p .place .last .1 .1 .1 .1 .1 .1 .0
 
 abbrev fallen : tie.After-propagate → List (List ℕ)
-fallen z = z .propagate .last .1 .1 .1 .1 .1 .1 .1 .1 .1 .1 .1 .1 .1 .1 .0
+fallen z = z .propagate .last .1 .1 .1 .1 .1 .1 .1 .0
 
 abbrev undone : tie.After-undo → List (List ℕ)
 undone u = u .undo .last .1 .1 .1 .1 .0
 
+element-copy-out-codes : tie.Need-element-copy-out-codes
+element-copy-out-codes c = search needs
+
+element-copy-out-corners : tie.Need-element-copy-out-corners
+element-copy-out-corners c = search needs
+
+element-copy-out-piercing : tie.Need-element-copy-out-piercing
+element-copy-out-piercing c = search needs
+
 place-requires : tie.Need-place-requires
-place-requires c κs = let h = c .before .before .before .before .before .before .before .before .pre in can-place (h .0) (h .3) (h .4) (h .2)
+place-requires c κs = let h = c .before .before .before .before .before .pre in can-place (h .0) (h .3) (h .4) (h .2)
 
 propagate-requires : tie.Need-propagate-requires
 propagate-requires c κs =
@@ -75,4 +85,14 @@ returns c =
     )
 
 pub is-refuted-spec : {M : Type 1} → statement M
-is-refuted-spec = tie.close (tie.spec place-requires propagate-requires undo-requires unset-requires returns)
+is-refuted-spec =
+    tie.close
+    (tie.spec
+    element-copy-out-codes
+    element-copy-out-corners
+    element-copy-out-piercing
+    place-requires
+    propagate-requires
+    undo-requires
+    unset-requires
+    returns)

@@ -12,11 +12,11 @@ use Rattle.thresholds.proofs.threshold.upper_bound.Statement.{statement
 use Rattle.thresholds.proofs.threshold.upper_bound.Tie as tie
 
 abbrev Inv-loop : tie.InvT-loop
-Inv-loop codes qualities m boundary n bound links state₀ most low₀ high₀ top₀ q₀ state low high top q =
-    (low < high) × (high ≤ 1000001) × (q < high) × Prunable m codes bound state top
+Inv-loop codes qualities m boundary n bound links state₀ most low₀ high₀ at₀ q₀ state low high at q =
+    (low < high) × (high ≤ 1000001) × (q < high) × Prunable m codes bound state at
 
 abbrev μ-loop : tie.MeasureT-loop
-μ-loop codes qualities m boundary n bound links state₀ most low₀ high₀ top₀ q₀ state low high top q =
+μ-loop codes qualities m boundary n bound links state₀ most low₀ high₀ at₀ q₀ state low high at q =
     high - low
 
 tops-of-requires : tie.Need-tops-of-requires Inv-loop μ-loop

@@ -2,24 +2,25 @@
 use mathlib.Core.Logic.{inl, inr}
 use native.Mathlib.Omega.{arith}
 use Prim.Native.Nat.{ℕ}
+use borrow.Author.Needs.{needs}
 use Rattle.extension.proofs.extend.face.Reads as face
 use Rattle.extension.proofs.extend.+corner+face.Lts-face as face-lts
 use Rattle.laws.specs.Laws.{fours-in}
 use Rattle.laws.specs.Check.{job}
+use Rattle.fillings.specs.Lent.{lent-codes}
 use Rattle.fillings.specs.Marks.{Reduced}
 use Rattle.fillings.proofs.ByNumber.Reduction.{reduced-trans}
 use Rattle.fillings.proofs.ByCode.Context.{context-count, live-reduced, ready-reduced}
 use Rattle.trail.specs.Counts.{Counts}
 use Rattle.trail.specs.State.{marks-of, owners-of, held-of, trail-of}
-use Rattle.shaving.proofs.Shaving.Calls.{can-discard}
-use Rattle.extension.proofs.Exploring.OwnersLoop.{exploring-discarded, exploring-in-order, exploring-shaved, exploring-skip, exploring-start, exploring-step}
+use Rattle.extension.proofs.Exploring.OwnersLoop.{can-retreat, exploring-in-order, exploring-retreated, exploring-skip, exploring-start, exploring-step}
 use Rattle.extension.proofs.Exploring.Answers.{face-closed, face-failed, face-found, propagated-counts}
 use Rattle.extension.proofs.extend.+corner+face.Proof.Cycle.{face-at, face-claims, face-Inv-loop, face-μ-loop, face-start, propagating, looping, lists, propagated, tried}
 
 -- the set owners after propagating
 propagated-holds :
     (t : ℕ) (z : face-lts.After-propagate (face-claims t) (face-at t) face.Post face-Inv-loop face-μ-loop) →
-    Counts 2 (face-start t z .args .m) (face-start t z .args .codes .now) (marks-of (propagated t z)) (held-of (propagated t z))
+    Counts 2 (face-start t z .args .m) (lent-codes (face-start t z .args .tables .now)) (marks-of (propagated t z)) (held-of (propagated t z))
 propagated-holds t z =
     propagated-counts {L = lists t z} {fours = face-start t z .args .fours .now} (face-start t z .pre .1 .2 .holds) (z .propagate .ensures .0) {held1 = held-of (propagated t z)} (z .propagate .ensures .1 .held)
 
@@ -33,13 +34,16 @@ left-of t l =
     reduced-trans {j = job (lists t z)} {cs = fours-in (a .m) (a .fours .now)} {ls = marks-of (a .state .now)} {ms = marks-of (propagated t z)} {ns = marks-of (l .loop .state)} (z .propagate .ensures .0 .propagates .reduced) (l .loop .inv .2 .tried .reduced)
 
 pub face-propagate-requires : (t : ℕ) → face-lts.Need-propagate-requires (face-claims t) (face-at t) face.Post face-Inv-loop face-μ-loop
-face-propagate-requires t c κs = c .before .before .before .before .before .before .before .before .pre .1
+face-propagate-requires t c κs = c .before .before .pre .1
+
+pub face-outcome-requires : (t : ℕ) → face-lts.Need-outcome-requires (face-claims t) (face-at t) face.Post face-Inv-loop face-μ-loop
+face-outcome-requires t c κs = tt
 
 pub face-returns : (t : ℕ) → face-lts.Need-returns (face-claims t) (face-at t) face.Post face-Inv-loop face-μ-loop
 face-returns t c =
-    let z = c .before in
+    let z = c .before .before in
     let s = face-start t z in (
-      face-closed {L = lists t z} {fours = s .args .fours .now} {tr = trail-of (s .args .state .now)} {top = s .args .top} {ns = marks-of (propagated t z)} {ow = owners-of (propagated t z)} {ur = trail-of (propagated t z)} (s .pre .1 .2 .holds) (z .propagate .ensures .0) {held1 = held-of (propagated t z)} (z .propagate .ensures .1 .held) (c .if1 .taken),
+      rw (c .outcome .ensures .0) (rw (c .outcome .ensures .1) (face-closed {L = lists t z} {fours = s .args .fours .now} {tr = trail-of (s .args .state .now)} {top = s .args .top} {ns = marks-of (propagated t z)} {ow = owners-of (propagated t z)} {ur = trail-of (propagated t z)} (s .pre .1 .2 .holds) (z .propagate .ensures .0) {held1 = held-of (propagated t z)} (z .propagate .ensures .1 .held) (c .before .if1 .taken))),
       z .propagate .ensures .1 .rows,
     )
 
@@ -47,7 +51,7 @@ pub face-loop-holds : (t : ℕ) → face-lts.Need-loop-holds (face-claims t) (fa
 face-loop-holds t c =
     let z = c .before in
     let a = face-start t z .args in
-    let q = z .propagate .ensures in (omega arith, q .1 .rows, exploring-start {m = a .m} {codes = a .codes .now} _ _ _ (propagated t z) (q .0 .trailed .living))
+    let q = z .propagate .ensures in (omega arith, q .1 .rows, exploring-start {m = a .m} {codes = lent-codes (a .tables .now)} _ _ _ (propagated t z) (q .0 .trailed .living))
 
 pub face-mul-if2 : (t : ℕ) → face-lts.Need-mul-if2 (face-claims t) (face-at t) face.Post face-Inv-loop face-μ-loop
 face-mul-if2 t c = let x = face-start t (propagating t (c .before)) .pre .1 .0 .context in omega (arith, x .few, c .loop-test .taken)
@@ -58,22 +62,25 @@ face-index-1-if2 t c = omega arith
 pub face-index-2-if2 : (t : ℕ) → face-lts.Need-index-2-if2 (face-claims t) (face-at t) face.Post face-Inv-loop face-μ-loop
 face-index-2-if2 t c = let x = face-start t (propagating t (c .before)) .pre .1 .0 .context in omega (arith, x .few, c .loop-test .taken)
 
+pub face-element-copy-out-owns : (t : ℕ) → face-lts.Need-element-copy-out-owns (face-claims t) (face-at t) face.Post face-Inv-loop face-μ-loop
+face-element-copy-out-owns t c = search needs
+
 pub face-owns-requires : (t : ℕ) → face-lts.Need-owns-requires (face-claims t) (face-at t) face.Post face-Inv-loop face-μ-loop
 face-owns-requires t c κs =
-    let x = face-start t (propagating t (c .before .before .before)) .pre .1 .0 .context in
-    let b = c .before .before .loop-test .taken in
+    let x = face-start t (propagating t (c .before .before .before .before)) .pre .1 .0 .context in
+    let b = c .before .before .before .loop-test .taken in
     (omega (arith, x .few, b), omega (arith, x .faces .long, context-count x, b))
 
 pub face-corner-requires : (t : ℕ) → face-lts.Need-corner-requires (face-claims t) (face-at t) face.Post face-Inv-loop face-μ-loop
 face-corner-requires t c κs =
-    let l = c .before .before .before .before .before .before in
+    let l = c .before .before .before .before .before .before .before in
     let z = propagating t l in
     let s = face-start t z in
     let h = s .pre .1 in
     let i = l .loop .inv in
     let x = h .0 .context in (
       omega (arith, live-reduced x {ms = marks-of (s .args .state .now)} {ns = marks-of (l .loop .state)} (left-of t l), s .pre .0),
-      (h .0, ready-reduced x {ms = marks-of (s .args .state .now)} {ns = marks-of (l .loop .state)} (left-of t l) (h .1), exploring-in-order (propagated t z) {new = l .loop .state} (propagated-holds t z) (i .1) (i .2), c .before .before .before .before .before .loop-test .taken, c .before .before .before .if2 .taken),
+      (h .0, ready-reduced x {ms = marks-of (s .args .state .now)} {ns = marks-of (l .loop .state)} (left-of t l) (h .1), exploring-in-order (propagated t z) {new = l .loop .state} (propagated-holds t z) (i .1) (i .2), c .before .before .before .before .before .before .loop-test .taken, c .before .before .before .before .if2 .taken),
     )
 
 pub face-returns-2 : (t : ℕ) → face-lts.Need-returns-2 (face-claims t) (face-at t) face.Post face-Inv-loop face-μ-loop
@@ -86,34 +93,22 @@ face-returns-2 t c =
       r .corner .ensures .1,
     )
 
-pub face-index-1-discard : (t : ℕ) → face-lts.Need-index-1-discard (face-claims t) (face-at t) face.Post face-Inv-loop face-μ-loop
-face-index-1-discard t c = omega arith
-
-pub face-discard-requires : (t : ℕ) → face-lts.Need-discard-requires (face-claims t) (face-at t) face.Post face-Inv-loop face-μ-loop
-face-discard-requires t c κs =
-    let r = c .before .before .before .before in
-    let l = looping t r in
-    let z = propagating t l in
-    let i = l .loop .inv in
-    can-discard (face-start t z .pre .1 .0) {k = l .loop .k} {old = l .loop .state} {new = tried t r} (exploring-in-order (propagated t z) (propagated-holds t z) (i .1) (i .2))
-    (r .before .before .before .before .before .before .loop-test .taken) (r .before .before .before .before .if2 .taken) (r .corner .ensures .0 .back (c .before .before .before .if4 .left)) (r .corner .ensures .1)
-
 pub face-more-requires : (t : ℕ) → face-lts.Need-more-requires (face-claims t) (face-at t) face.Post face-Inv-loop face-μ-loop
 face-more-requires t c κs = tt
 
-pub face-shave-requires : (t : ℕ) → face-lts.Need-shave-requires (face-claims t) (face-at t) face.Post face-Inv-loop face-μ-loop
-face-shave-requires t c κs =
-    let d = c .before .before .before .before in
-    let r = d .before .before .before .before .before in
+pub face-is-late-requires : (t : ℕ) → face-lts.Need-is-late-requires (face-claims t) (face-at t) face.Post face-Inv-loop face-μ-loop
+face-is-late-requires t c κs = tt
+
+pub face-retreat-requires : (t : ℕ) → face-lts.Need-retreat-requires (face-claims t) (face-at t) face.Post face-Inv-loop face-μ-loop
+face-retreat-requires t c κs =
+    let r = c .before .before .before .before in
     let l = looping t r in
     let z = propagating t l in
     let s = face-start t z in
-    let a = s .args in
     let h = s .pre .1 in
-    let x = h .0 .context in
-    let n = d .discard .last .1 .1 .1 .1 .1 .0 in
-    let i = exploring-discarded (propagated t z) (l .loop .state) {tried = tried t r} {new = n} {end = l .loop .end} {k = l .loop .k} x (r .before .before .before .before .before .before .loop-test .taken) (r .before .before .before .before .if2 .taken) (propagated-holds t z) (d .before .before .before .before .if4 .left) (r .corner .ensures .0) (d .discard .ensures .0) (d .discard .ensures .1) (l .loop .inv .2) in
-    (h .0, ready-reduced x {ms = marks-of (a .state .now)} {ns = marks-of n} (reduced-trans {j = job (lists t z)} {cs = fours-in (a .m) (a .fours .now)} {ls = marks-of (a .state .now)} {ms = marks-of (propagated t z)} {ns = marks-of n} (z .propagate .ensures .0 .propagates .reduced) (i .1 .tried .reduced)) (h .1), exploring-in-order (propagated t z) {new = n} (propagated-holds t z) (i .0) (i .1))
+    let i = l .loop .inv in
+    can-retreat {now = l .loop .state} {tried = tried t r} {end = l .loop .end} {k = l .loop .k} (h .0) (ready-reduced (h .0 .context) {ms = marks-of (s .args .state .now)} {ns = marks-of (l .loop .state)} (left-of t l) (h .1)) (exploring-in-order (propagated t z) {new = l .loop .state} (propagated-holds t z) (i .1) (i .2))
+    (r .before .before .before .before .before .before .before .loop-test .taken) (r .before .before .before .before .before .if2 .taken) (c .before .before .before .if4 .left) (r .corner .ensures .0) (r .corner .ensures .1)
 
 pub face-add-k : (t : ℕ) → face-lts.Need-add-k (face-claims t) (face-at t) face.Post face-Inv-loop face-μ-loop
 face-add-k t c = let x = face-start t (propagating t (c .before .before .before)) .pre .1 .0 .context in omega (arith, x .few, c .before .before .loop-test .taken)
@@ -126,30 +121,26 @@ face-loop-again t c =
     let l = c .before .before .before in
     let z = propagating t l in
     let x = face-start t z .pre .1 .0 .context in
-    let g = propagated-holds t z in
     let o = propagated t z in
     let i = l .loop .inv in
     let b = c .before .before .loop-test .taken in
     elim (c .if2 .came) [
       | inl w ↦
-          let e = exploring-discarded o (l .loop .state) {tried = w .4 .last .1 .1 .1 .1 .1 .1 .1 .1 .1 .1 .1 .1 .1 .1 .0} {new = w .9 .last .1 .1 .1 .1 .1 .0} {end = l .loop .end} {k = l .loop .k} x b (w .0 .taken) g (w .5 .left) (w .4 .ensures .0) (w .9 .ensures .0) (w .9 .ensures .1) (i .2) in
-          exploring-step o {new = w .14 .last .1 .1 .1 .1 .1 .1 .1 .1 .1 .1 .1 .1 .1 .0} {end = w .14 .result} b (w .15) (w .16)
-          (exploring-shaved o (w .9 .last .1 .1 .1 .1 .1 .0) (w .14 .last .1 .1 .1 .1 .1 .1 .1 .1 .1 .1 .1 .1 .1 .0) (omega (arith, context-count x, b)) (e .1) (w .14 .ensures .0) (w .14 .ensures .1))
-      | inr (inl w) ↦
-          exploring-step o {new = w .9 .last .1 .1 .1 .1 .1 .0} b (w .13) (w .14)
-          (exploring-discarded o (l .loop .state) {tried = w .4 .last .1 .1 .1 .1 .1 .1 .1 .1 .1 .1 .1 .1 .1 .1 .0} {new = w .9 .last .1 .1 .1 .1 .1 .0} {end = l .loop .end} {k = l .loop .k} x b (w .0 .taken) g (w .5 .left) (w .4 .ensures .0) (w .9 .ensures .0) (w .9 .ensures .1) (i .2))
-      | inr (inr (inl w)) ↦
-          exploring-step o {new = w .9 .last .1 .1 .1 .1 .1 .0} b (w .12) (w .13)
-          (exploring-discarded o (l .loop .state) {tried = w .4 .last .1 .1 .1 .1 .1 .1 .1 .1 .1 .1 .1 .1 .1 .1 .0} {new = w .9 .last .1 .1 .1 .1 .1 .0} {end = l .loop .end} {k = l .loop .k} x b (w .0 .taken) g (w .5 .left) (w .4 .ensures .0) (w .9 .ensures .0) (w .9 .ensures .1) (i .2))
-      | inr (inr (inr (inl w))) ↦ exploring-step o b (w .3) (w .4) (i .1, exploring-skip (i .2) (λ y q. w .1 .ensures .1 (w .2 .left) q))
-      | inr (inr (inr (inr w))) ↦ exploring-step o b (w .1) (w .2) (i .1, exploring-skip (i .2) (λ y q. absurd (w .0 .left y)))
+          let n = w .10 .last .1 .1 .1 .1 .1 .1 .1 .1 .0 in
+          exploring-step o {new = n} {end = w .10 .result} b (w .11) (w .12)
+          (exploring-retreated o (l .loop .state) (w .5 .last .1 .1 .1 .1 .1 .1 .1 .0) n (omega (arith, context-count x, b)) (w .6 .left) (w .5 .ensures .0) (w .10 .ensures .0) (w .10 .ensures .1) (w .10 .ensures .2) (i .2))
+      | inr (inl w) ↦ exploring-step o b (w .4) (w .5) (i .1, exploring-skip (i .2) (λ y q. w .2 .ensures .1 (w .3 .left) q))
+      | inr (inr w) ↦ exploring-step o b (w .1) (w .2) (i .1, exploring-skip (i .2) (λ y q. absurd (w .0 .left y)))
     ]
+
+pub face-outcome-requires-2 : (t : ℕ) → face-lts.Need-outcome-requires-2 (face-claims t) (face-at t) face.Post face-Inv-loop face-μ-loop
+face-outcome-requires-2 t c κs = tt
 
 pub face-returns-3 : (t : ℕ) → face-lts.Need-returns-3 (face-claims t) (face-at t) face.Post face-Inv-loop face-μ-loop
 face-returns-3 t c =
-    let l = c .before in
+    let l = c .before .before in
     let z = propagating t l in
     let s = face-start t z in (
-      face-failed {L = lists t z} {fours = s .args .fours .now} {tr = trail-of (s .args .state .now)} {top = s .args .top} {ns = marks-of (propagated t z)} {ow = owners-of (propagated t z)} {ur = trail-of (propagated t z)} (s .pre .1 .2 .holds) (z .propagate .ensures .0) {held1 = held-of (propagated t z)} (z .propagate .ensures .1 .held) (s .pre .1 .0 .context) (l .before .if1 .left) (c .loop-test .left) (l .loop .inv .2),
+      rw (c .outcome2 .ensures .0) (rw (c .outcome2 .ensures .1) (face-failed {L = lists t z} {fours = s .args .fours .now} {tr = trail-of (s .args .state .now)} {top = s .args .top} {ns = marks-of (propagated t z)} {ow = owners-of (propagated t z)} {ur = trail-of (propagated t z)} (s .pre .1 .2 .holds) (z .propagate .ensures .0) {held1 = held-of (propagated t z)} (z .propagate .ensures .1 .held) (s .pre .1 .0 .context) (l .before .if1 .left) (c .before .loop-test .left) (l .loop .inv .2))),
       l .loop .inv .1,
     )
