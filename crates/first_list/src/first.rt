@@ -79,7 +79,7 @@ pub(crate) fn step(
     propagate(lists, ints, fours, tables, hints, m, top, state, end)
 }
 
-// The first list of the best worst quality, as marks.
+// The first list of the best worst quality, as marks. `w` is the witness: a filling that has every candidate taken so far.
 pub fn first_list(
     lists: &[&[u8]; 3],
     ints: &[&[i32]; 2],

@@ -1,7 +1,9 @@
 // Choosing the next open face to own: one with the fewest alive owners. Which one is chosen is left free; that an open face without an owner is not overlooked is not.
 ghost use mathlib.Core.Path.{_≡_};
-ghost use Prim.Native.Nat.{_<_};
+ghost use Prim.Native.Nat.{_+_, _<_};
 ghost use lib.ListN.{length};
+ghost use Rattle.laws.specs.inner.FaceCodes.{flip-code};
+ghost use Rattle.fillings.specs.Codes.{Owns};
 ghost use Rattle.fillings.specs.Tables.{All-below, Goes-on, On-boundary, Behind-set};
 ghost use Rattle.trail.specs.State.{marks-of, owners-of, held-of, Coded};
 use pruning::open::is_open;
@@ -71,6 +73,25 @@ pub fn choose_on_boundary(
     best
 }
 
+// The better of a choice and the reverses of the faces of the candidate k.
+fn consider_behind(
+    codes: &[u16],
+    k: usize,
+    bound: &[u16],
+    state: &[[u16; 4096]; 4],
+    from: Choice,
+) -> Choice
+    requires { ⌜ Coded (k + 1) (now codes) × (length (now bound) ≡ 4096) × (length (held-of (now state)) ≡ 4096) × (length (owners-of (now state)) ≡ 4096) ⌝ }
+    ensures { λ r. ⌜ Goes-on (held-of (now (state .entry))) (now (bound .entry)) (owners-of (now (state .entry))) (λ c. Owns (now (codes .entry)) k (flip-code c)) (from .kind) (from .face) (r .kind) (r .face) ⌝ }
+{
+    let mut best = from;
+    for i in 0..4 {
+        let d = codes[k * 4 + i] as usize;
+        best = consider(&state[2], bound, &state[1], flip(d), best);
+    }
+    best
+}
+
 // Among the reverses of the faces of the set candidates, too.
 pub(crate) fn choose_behind(
     codes: &[u16],
@@ -86,10 +107,7 @@ pub(crate) fn choose_behind(
     for k in 0..m {
         let x = state[0][k];
         if x == 2 {
-            for i in 0..4 {
-                let d = codes[k * 4 + i] as usize;
-                best = consider(&state[2], bound, &state[1], flip(d), best);
-            }
+            best = consider_behind(codes, k, bound, state, best);
         }
     }
     best

@@ -1,7 +1,8 @@
 // What the candidates with a mark cover: points and kept edges by flags for two points, inner triangles by counts for a face.
 ghost use mathlib.Core.Path.{_≡_};
 ghost use mathlib.Core.Bool.{true, false};
-ghost use Prim.Native.Nat.{_+_, _*_, _/_, _<_, _≤_};
+ghost use mathlib.Core.List.{[]};
+ghost use Prim.Native.Nat.{_*_, _/_, _<_, _≤_};
 ghost use lib.ListN.{length};
 ghost use Rattle.laws.specs.Laws.{tri, fours-in};
 ghost use Rattle.laws.specs.inner.Listed.{All-within};
@@ -59,10 +60,10 @@ pub(crate) fn links_of(fours: &[u8], m: usize, marks: &[u16], v: u16, w: u16) ->
     Links { link }
 }
 
-// Whether every point and every kept edge is linked.
-pub(crate) fn all_linked(kept: &[u8], n: usize, link: &[u8]) -> bool
-    requires { ⌜ (n ≤ 16) × (length (now link) ≡ 256) × All-below 16 (length (now kept) / 2 * 2) (now kept) ⌝ }
-    ensures { λ r. ⌜ (r ≡ true → All-linked n (now (kept .entry)) (now (link .entry))) × (r ≡ false → Unlinked n (now (kept .entry)) (now (link .entry))) ⌝ }
+// Whether every point is linked with itself, no edge asked for.
+fn are_points_linked(n: usize, link: &[u8]) -> bool
+    requires { ⌜ (n ≤ 16) × (length (now link) ≡ 256) ⌝ }
+    ensures { λ r. ⌜ (r ≡ true → All-linked n [] (now (link .entry))) × (r ≡ false → Unlinked n [] (now (link .entry))) ⌝ }
 {
     for p in 0..n {
         let x = link[p * 17];
@@ -70,6 +71,14 @@ pub(crate) fn all_linked(kept: &[u8], n: usize, link: &[u8]) -> bool
             return false;
         }
     }
+    true
+}
+
+// Whether the ends of every kept edge are linked, no point asked for.
+fn are_edges_linked(kept: &[u8], link: &[u8]) -> bool
+    requires { ⌜ (length (now link) ≡ 256) × All-below 16 (length (now kept) / 2 * 2) (now kept) ⌝ }
+    ensures { λ r. ⌜ (r ≡ true → All-linked 0 (now (kept .entry)) (now (link .entry))) × (r ≡ false → Unlinked 0 (now (kept .entry)) (now (link .entry))) ⌝ }
+{
     for i in 0..kept.len() / 2 {
         let a = kept[i * 2] as usize;
         let b = kept[i * 2 + 1] as usize;
@@ -79,6 +88,17 @@ pub(crate) fn all_linked(kept: &[u8], n: usize, link: &[u8]) -> bool
         }
     }
     true
+}
+
+// Whether every point and every kept edge is linked.
+pub(crate) fn all_linked(kept: &[u8], n: usize, link: &[u8]) -> bool
+    requires { ⌜ (n ≤ 16) × (length (now link) ≡ 256) × All-below 16 (length (now kept) / 2 * 2) (now kept) ⌝ }
+    ensures { λ r. ⌜ (r ≡ true → All-linked n (now (kept .entry)) (now (link .entry))) × (r ≡ false → Unlinked n (now (kept .entry)) (now (link .entry))) ⌝ }
+{
+    if !are_points_linked(n, link) {
+        return false;
+    }
+    are_edges_linked(kept, link)
 }
 
 // Whether the triangle a, b, c or its reverse is counted in a row by face code.

@@ -1,6 +1,6 @@
 // Thresholds: the candidates from a quality on, and an upper bound of the best worst quality, on which nothing rests.
 ghost use mathlib.Core.Path.{_≡_};
-ghost use Prim.Native.Nat.{_*_, _<_, _≤_};
+ghost use Prim.Native.Nat.{_+_, _*_, _<_, _≤_};
 ghost use lib.ListN.{length};
 ghost use Rattle.fillings.specs.Tables.{All-below, Alive-from, Between, Least-set};
 ghost use Rattle.trail.specs.State.{marks-of, owners-of, held-of, Coded, Sized-state, Trail-same};
@@ -99,20 +99,26 @@ pub fn between(qualities: &[u32], m: usize, low: u32, high: u32) -> u32
 }
 
 // ---- an upper bound: the highest threshold at which pruning leaves every boundary triangle an owner
+// Takes the candidate k, of quality q, into the greatest at each of its faces.
+pub(crate) fn raise_tops(codes: &[u16], k: usize, q: u32, top: &mut [u32; 4096])
+    requires { ⌜ (k < 1820) × All-below 4096 (k * 4 + 4) (now codes) ⌝ }
+{
+    for i in 0..4 {
+        let c = codes[k * 4 + i] as usize;
+        if top[c] < q {
+            top[c] = q;
+        }
+    }
+}
+
 pub(crate) fn tops_of(codes: &[u16], qualities: &[u32], m: usize) -> Tops
     requires { ⌜ (m ≤ 1820) × (m ≤ length (now qualities)) × All-below 4096 (m * 4) (now codes) ⌝ }
 {
-    let mut t = Tops { top: [0; 4096] };
+    let mut top = [0u32; 4096];
     for k in 0..m {
-        let q = qualities[k];
-        for i in 0..4 {
-            let c = codes[k * 4 + i] as usize;
-            if t.top[c] < q {
-                t.top[c] = q;
-            }
-        }
+        raise_tops(codes, k, qualities[k], &mut top);
     }
-    t
+    Tops { top }
 }
 
 // The least over the boundary triangles of the greatest quality of an owner.
