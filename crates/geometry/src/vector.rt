@@ -25,7 +25,7 @@ pub(crate) fn coordinate(points: &[i32], i: usize) -> i64
     points[i] as i64
 }
 
-pub(crate) fn point(points: &[i32], p: usize) -> Vector
+pub fn point(points: &[i32], p: usize) -> Vector
     requires { ⌜ (any-far (now points) ≡ false) × (p < length (points-in (now points))) ⌝ }
     ensures { λ r. ⌜ (r ≡ vector (point (points-in (now (points .entry))) p)) × Bounded furthest r ⌝ }
 {

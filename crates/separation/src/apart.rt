@@ -1,51 +1,74 @@
 // Separating directions (document 01, law 5): the eight face normals and the 36 cross products of an edge of each.
-// A value along e × (q - p), for an edge e, is the value along p × e less that along q × e. So an edge takes a row of the other
-// tetrahedron for each of its four corners, and tests the six cross products by differences. Its own tetrahedron has the rows of e's two faces.
+// The eight corners are held once, as rows of three coordinates. Each direction is made from the rows and put to one test, `parts`,
+// in document 03's order.
 ghost use mathlib.Core.Path.{_≡_};
-ghost use Rattle.geometry.specs.Space.{points-in, apart};
-ghost use Rattle.separation.specs.inner.Directions.{zero-vector, normal-of, edge-vectors, crosses-of, all-crosses-of};
-ghost use Rattle.geometry.specs.inner.Vectors.{difference, cross-product};
-ghost use Rattle.separation.specs.inner.Rows.{lesser-of, greater-of, any-parting, row-of, row-difference, no-row, extent-in, clear, parting-rows, level-of, faces-of, no-faces, Faces-found, seen-from, across-of, sides-of, Bounded-row, Bounded-rows};
-ghost use Rattle.geometry.specs.Range.{furthest, Present};
-ghost use Rattle.geometry.specs.inner.Bounded.{longest, widest, Bounded, In-range, In-reach};
-use geometry::tetrahedron::Corners;
+ghost use mathlib.Core.Bool.{false, _||_};
+ghost use Prim.Native.Nat.{_<_};
+ghost use lib.ListN.{length};
+ghost use Rattle.geometry.specs.Space.{points-in, parts-them, apart};
+ghost use Rattle.geometry.specs.Range.{any-far, furthest, Present};
+ghost use Rattle.geometry.specs.inner.Vectors.{cross-product, dot-product};
+ghost use Rattle.geometry.specs.inner.Bounded.{longest, widest, Bounded};
+ghost use Rattle.separation.specs.inner.Directions.{zero-vector, normals-of, edge-vectors, crosses-of, all-crosses-of};
+ghost use Rattle.separation.specs.inner.Rows.{Row-of, row-vector, edge-from, four-at, four-from, direction, row-points, Rows-near, Held, parting, any-parting};
+ghost use Rattle.separation.specs.inner.Extents.{lesser-of, greater-of, only, widened, clear};
 use geometry::tetrahedron::Four;
-use geometry::tetrahedron::corner_points;
 use geometry::vector::Vector;
 use geometry::vector::cross;
 use geometry::vector::dot;
 use geometry::vector::is_zero;
 use geometry::vector::minus;
+use geometry::vector::point;
 
-// The values of four corners along a direction.
-pub(crate) struct Row {
-    pub(crate) a: i64,
-    pub(crate) b: i64,
-    pub(crate) c: i64,
-    pub(crate) d: i64,
-}
-
-// The least and the greatest of them.
+// The least and the greatest of the values of some corners along a direction.
 pub(crate) struct Extent {
     pub(crate) least: i64,
     pub(crate) greatest: i64,
 }
 
-// A row for each of four corners.
-pub(crate) struct Rows {
-    pub(crate) a: Row,
-    pub(crate) b: Row,
-    pub(crate) c: Row,
-    pub(crate) d: Row,
+// The point p as a row: x, y, z.
+pub(crate) fn row(points: &[i32], p: usize) -> [i64; 3]
+    requires { ⌜ (any-far (now points) ≡ false) × (p < length (points-in (now points))) ⌝ }
+    ensures { λ r. ⌜ Row-of (points-in (now (points .entry))) p r ⌝ }
+{
+    let v = point(points, p);
+    [v.x, v.y, v.z]
 }
 
-// Whether a face normal parts two tetrahedra; where none does, the row of the other along each.
-pub(crate) struct Faces {
-    pub(crate) parted: bool,
-    pub(crate) abc: Row,
-    pub(crate) abd: Row,
-    pub(crate) acd: Row,
-    pub(crate) bcd: Row,
+// Rows 0 to 3 are the corners of f, 4 to 7 those of g. Made once for a pair; every direction is read from here.
+pub(crate) fn corner_rows(points: &[i32], f: Four, g: Four) -> [[i64; 3]; 8]
+    requires { ⌜ Present (now points) f × Present (now points) g ⌝ }
+    ensures { λ r. ⌜ Held (points-in (now (points .entry))) f g r ⌝ }
+{
+    [
+        row(points, f.a),
+        row(points, f.b),
+        row(points, f.c),
+        row(points, f.d),
+        row(points, g.a),
+        row(points, g.b),
+        row(points, g.c),
+        row(points, g.d),
+    ]
+}
+
+// Row i as a vector.
+pub(crate) fn corner(c: &[[i64; 3]; 8], i: usize) -> Vector
+    requires { ⌜ (i < 8) × Rows-near (now c) ⌝ }
+    ensures { λ r. ⌜ (r ≡ row-vector (now (c .entry)) i) × Bounded furthest r ⌝ }
+{
+    let x = c[i][0];
+    let y = c[i][1];
+    let z = c[i][2];
+    Vector { x, y, z }
+}
+
+// From corner i to corner j.
+pub(crate) fn edge(c: &[[i64; 3]; 8], i: usize, j: usize) -> Vector
+    requires { ⌜ ((i < 8) × (j < 8)) × Rows-near (now c) ⌝ }
+    ensures { λ r. ⌜ (r ≡ edge-from (now (c .entry)) i j) × Bounded longest r ⌝ }
+{
+    minus(corner(c, j), corner(c, i))
 }
 
 pub(crate) fn lesser(a: i64, b: i64) -> i64
@@ -60,6 +83,22 @@ pub(crate) fn greater(a: i64, b: i64) -> i64
     if a < b { b } else { a }
 }
 
+// The extent with one corner more, at v.
+pub(crate) fn widen(e: Extent, v: i64) -> Extent
+    ensures { λ r. ⌜ r ≡ widened e v ⌝ }
+{
+    let least = lesser(e.least, v);
+    let greatest = greater(e.greatest, v);
+    Extent { least, greatest }
+}
+
+// Whether the two have at most an end in common.
+pub(crate) fn are_clear(p: Extent, q: Extent) -> bool
+    ensures { λ r. ⌜ r ≡ clear p q ⌝ }
+{
+    (p.greatest <= q.least) | (q.greatest <= p.least)
+}
+
 pub(crate) fn no_direction(n: Vector) -> bool
     ensures { λ r. ⌜ r ≡ zero-vector n ⌝ }
 {
@@ -72,283 +111,128 @@ pub(crate) fn no_direction(n: Vector) -> bool
     is_zero(n.z)
 }
 
-pub(crate) fn along(n: Vector, t: Corners) -> Row
-    requires { ⌜ Bounded widest n × In-range t ⌝ }
-    ensures { λ r. ⌜ (r ≡ row-of n t) × Bounded-row r ⌝ }
+// Where corner i lies along n.
+pub(crate) fn along(c: &[[i64; 3]; 8], i: usize, n: Vector) -> i64
+    requires { ⌜ (i < 8) × Bounded widest n × Rows-near (now c) ⌝ }
+    ensures { λ r. ⌜ r ≡ dot-product n (row-vector (now (c .entry)) i) ⌝ }
 {
-    let a = dot(n, t.a);
-    let b = dot(n, t.b);
-    let c = dot(n, t.c);
-    let d = dot(n, t.d);
-    Row { a, b, c, d }
+    dot(n, corner(c, i))
 }
 
-pub(crate) fn row_minus(p: Row, q: Row) -> Row
-    requires { ⌜ Bounded-row p × Bounded-row q ⌝ }
-    ensures { λ r. ⌜ r ≡ row-difference p q ⌝ }
+// The extent of corners i and j.
+pub(crate) fn two_along(c: &[[i64; 3]; 8], i: usize, j: usize, n: Vector) -> Extent
+    requires { ⌜ ((i < 8) × (j < 8)) × Bounded widest n × Rows-near (now c) ⌝ }
+    ensures { λ r. ⌜ r ≡ widened (only (dot-product n (row-vector (now (c .entry)) i))) (dot-product n (row-vector (now (c .entry)) j)) ⌝ }
 {
-    Row {
-        a: p.a - q.a,
-        b: p.b - q.b,
-        c: p.c - q.c,
-        d: p.d - q.d,
+    let v = along(c, i, n);
+    let one = Extent {
+        least: v,
+        greatest: v,
+    };
+    widen(one, along(c, j, n))
+}
+
+// THE DIRECTION TEST: n is not zero and parts the two. Two corners of each, then three, then four: left as soon as neither can lie below the
+// other. A zero direction, along which all values are equal, parts nothing.
+pub(crate) fn parts(c: [[i64; 3]; 8], n: Vector) -> bool
+    requires { ⌜ Bounded widest n × Rows-near c ⌝ }
+    ensures { λ r. ⌜ r ≡ parts-them (direction n) (row-points c 0) (row-points c 4) ⌝ }
+{
+    let rows = &c;
+    let p = two_along(rows, 0, 1, n);
+    let q = two_along(rows, 4, 5, n);
+    if !are_clear(p, q) {
+        return false;
     }
-}
-
-// The row along the opposite direction.
-pub(crate) fn back(p: Row) -> Row
-    requires { ⌜ Bounded-row p ⌝ }
-    ensures { λ r. ⌜ (r ≡ row-difference no-row p) × Bounded-row r ⌝ }
-{
-    Row {
-        a: 0 - p.a,
-        b: 0 - p.b,
-        c: 0 - p.c,
-        d: 0 - p.d,
+    let s = widen(p, along(rows, 2, n));
+    let t = widen(q, along(rows, 6, n));
+    if !are_clear(s, t) {
+        return false;
     }
-}
-
-pub(crate) fn extent_in(p: Row) -> Extent
-    ensures { λ r. ⌜ r ≡ extent-in p ⌝ }
-{
-    Extent {
-        least: lesser(lesser(p.a, p.b), lesser(p.c, p.d)),
-        greatest: greater(greater(p.a, p.b), greater(p.c, p.d)),
-    }
-}
-
-// Whether the two have at most an end in common. Both comparisons are made: a branch between them could not be predicted.
-pub(crate) fn are_clear(p: Extent, q: Extent) -> bool
-    ensures { λ r. ⌜ r ≡ clear p q ⌝ }
-{
-    (p.greatest <= q.least) | (q.greatest <= p.least)
-}
-
-// The test of one direction by the rows along it. A zero direction, along which all values are equal, parts nothing.
-pub(crate) fn parts(n: Vector, p: Row, q: Row) -> bool
-    ensures { λ r. ⌜ r ≡ parting-rows n p q ⌝ }
-{
-    if !are_clear(extent_in(p), extent_in(q)) {
+    if !are_clear(widen(s, along(rows, 3, n)), widen(t, along(rows, 7, n))) {
         return false;
     }
     !no_direction(n)
 }
 
-pub(crate) fn normal(a: Vector, b: Vector, c: Vector) -> Vector
-    requires { ⌜ Bounded furthest a × Bounded furthest b × Bounded furthest c ⌝ }
-    ensures { λ r. ⌜ (r ≡ normal-of a b c) × Bounded widest r ⌝ }
+// The cross product of the edge from i to j and the edge from k to l.
+pub(crate) fn cross_parts(c: &[[i64; 3]; 8], i: usize, j: usize, k: usize, l: usize) -> bool
+    requires { ⌜ ((i < 8) × (j < 8)) × ((k < 8) × (l < 8)) × Rows-near (now c) ⌝ }
+    ensures { λ r. ⌜ r ≡ parting (cross-product (edge-from (now (c .entry)) i j) (edge-from (now (c .entry)) k l)) (now (c .entry)) ⌝ }
 {
-    cross(minus(b, a), minus(c, a))
+    parts(*c, cross(edge(c, i, j), edge(c, k, l)))
 }
 
-// The own corners along the normal of a face: the face is all at the value of its corner p, and q is the fourth. Their order does not matter.
-pub(crate) fn level(n: Vector, p: Vector, q: Vector) -> Row
-    requires { ⌜ Bounded widest n × Bounded furthest p × Bounded furthest q ⌝ }
-    ensures { λ r. ⌜ r ≡ level-of n p q ⌝ }
+// The face normals of the tetrahedron with the corners i, j, k, l.
+pub(crate) fn normals_part(c: &[[i64; 3]; 8], i: usize, j: usize, k: usize, l: usize) -> bool
+    requires { ⌜ ((i < 8) × (j < 8)) × ((k < 8) × (l < 8)) × Rows-near (now c) ⌝ }
+    ensures { λ r. ⌜ r ≡ any-parting (normals-of (four-at (now (c .entry)) i j k l)) (now (c .entry)) ⌝ }
 {
-    let v = dot(n, p);
-    let w = dot(n, q);
-    Row {
-        a: v,
-        b: v,
-        c: v,
-        d: w,
+    if cross_parts(c, i, j, i, k) {
+        return true;
     }
+    if cross_parts(c, i, j, i, l) {
+        return true;
+    }
+    if cross_parts(c, i, k, i, l) {
+        return true;
+    }
+    cross_parts(c, j, k, j, l)
 }
 
-// What is answered where a face normal parts the two.
-pub(crate) fn no_faces() -> Faces
-    ensures { λ r. ⌜ r ≡ no-faces ⌝ }
+pub(crate) fn any_normal_parts(c: &[[i64; 3]; 8]) -> bool
+    requires { ⌜ Rows-near (now c) ⌝ }
+    ensures { λ r. ⌜ r ≡ any-parting (normals-of (four-from (now (c .entry)) 0)) (now (c .entry)) || any-parting (normals-of (four-from (now (c .entry)) 4)) (now (c .entry)) ⌝ }
 {
-    let none = Row {
-        a: 0,
-        b: 0,
-        c: 0,
-        d: 0,
-    };
-    Faces {
-        parted: true,
-        abc: none,
-        abd: none,
-        acd: none,
-        bcd: none,
+    if normals_part(c, 0, 1, 2, 3) {
+        return true;
     }
+    normals_part(c, 4, 5, 6, 7)
 }
 
-// The face normals of s; left at the first that parts.
-pub(crate) fn faces_against(s: Corners, t: Corners) -> Faces
-    requires { ⌜ In-range s × In-range t ⌝ }
-    ensures { λ r. ⌜ Faces-found s t r ⌝ }
+// The edge from i to j, with each edge of the second tetrahedron.
+pub(crate) fn edge_parts(c: &[[i64; 3]; 8], i: usize, j: usize) -> bool
+    requires { ⌜ ((i < 8) × (j < 8)) × Rows-near (now c) ⌝ }
+    ensures { λ r. ⌜ r ≡ any-parting (crosses-of (edge-from (now (c .entry)) i j) (edge-vectors (four-from (now (c .entry)) 4))) (now (c .entry)) ⌝ }
 {
-    let f = normal(s.a, s.b, s.c);
-    let abc = along(f, t);
-    if parts(f, level(f, s.a, s.d), abc) {
-        return no_faces();
+    if cross_parts(c, i, j, 4, 5) {
+        return true;
     }
-    let g = normal(s.a, s.b, s.d);
-    let abd = along(g, t);
-    if parts(g, level(g, s.a, s.c), abd) {
-        return no_faces();
+    if cross_parts(c, i, j, 4, 6) {
+        return true;
     }
-    let h = normal(s.a, s.c, s.d);
-    let acd = along(h, t);
-    if parts(h, level(h, s.a, s.b), acd) {
-        return no_faces();
+    if cross_parts(c, i, j, 4, 7) {
+        return true;
     }
-    let k = normal(s.b, s.c, s.d);
-    let bcd = along(k, t);
-    if parts(k, level(k, s.b, s.a), bcd) {
-        return no_faces();
+    if cross_parts(c, i, j, 5, 6) {
+        return true;
     }
-    Faces {
-        parted: false,
-        abc,
-        abd,
-        acd,
-        bcd,
+    if cross_parts(c, i, j, 5, 7) {
+        return true;
     }
+    cross_parts(c, i, j, 6, 7)
 }
 
-// The corners of t, as edges from i.
-pub(crate) fn seen_from(i: Vector, t: Corners) -> Corners
-    requires { ⌜ Bounded furthest i × In-range t ⌝ }
-    ensures { λ r. ⌜ (r ≡ seen-from i t) × In-reach r ⌝ }
+pub(crate) fn any_cross_parts(c: &[[i64; 3]; 8]) -> bool
+    requires { ⌜ Rows-near (now c) ⌝ }
+    ensures { λ r. ⌜ r ≡ any-parting (all-crosses-of (edge-vectors (four-from (now (c .entry)) 0)) (edge-vectors (four-from (now (c .entry)) 4))) (now (c .entry)) ⌝ }
 {
-    let a = minus(t.a, i);
-    let b = minus(t.b, i);
-    let c = minus(t.c, i);
-    let d = minus(t.d, i);
-    Corners { a, b, c, d }
-}
-
-// A row for each corner p, along p × e. The value of q is that of p along q × e with the other sign, so six of the sixteen are computed.
-pub(crate) fn across(e: Vector, t: Corners) -> Rows
-    requires { ⌜ Bounded longest e × In-reach t ⌝ }
-    ensures { λ r. ⌜ (r ≡ across-of e t) × Bounded-rows r ⌝ }
-{
-    let p = cross(t.a, e);
-    let q = cross(t.b, e);
-    let ab = dot(p, t.b);
-    let ac = dot(p, t.c);
-    let ad = dot(p, t.d);
-    let bc = dot(q, t.c);
-    let bd = dot(q, t.d);
-    let cd = dot(cross(t.c, e), t.d);
-    let a = Row {
-        a: 0,
-        b: ab,
-        c: ac,
-        d: ad,
-    };
-    let b = Row {
-        a: 0 - ab,
-        b: 0,
-        c: bc,
-        d: bd,
-    };
-    let c = Row {
-        a: 0 - ac,
-        b: 0 - bc,
-        c: 0,
-        d: cd,
-    };
-    let d = Row {
-        a: 0 - ad,
-        b: 0 - bd,
-        c: 0 - cd,
-        d: 0,
-    };
-    Rows { a, b, c, d }
-}
-
-// The tetrahedron of an edge along the same directions: the ends of the edge at zero, the other two corners by the rows x and y of its faces.
-pub(crate) fn sides(x: Row, y: Row) -> Rows
-    requires { ⌜ Bounded-row x × Bounded-row y ⌝ }
-    ensures { λ r. ⌜ (r ≡ sides-of x y) × Bounded-rows r ⌝ }
-{
-    let a = Row {
-        a: 0,
-        b: 0,
-        c: x.a,
-        d: y.a,
-    };
-    let b = Row {
-        a: 0,
-        b: 0,
-        c: x.b,
-        d: y.b,
-    };
-    let c = Row {
-        a: 0,
-        b: 0,
-        c: x.c,
-        d: y.c,
-    };
-    let d = Row {
-        a: 0,
-        b: 0,
-        c: x.d,
-        d: y.d,
-    };
-    Rows { a, b, c, d }
-}
-
-// The cross product of an edge e and the edge from a to b, by the rows of a and b.
-pub(crate) fn cross_parts(e: Vector, a: Vector, b: Vector, p: Row, q: Row, v: Row, w: Row) -> bool
-    requires { ⌜ (Bounded longest e × Bounded furthest a × Bounded furthest b) × (Bounded-row p × Bounded-row q) × Bounded-row v × Bounded-row w ⌝ }
-    ensures { λ r. ⌜ r ≡ parting-rows (cross-product e (difference b a)) (row-difference p q) (row-difference v w) ⌝ }
-{
-    parts(cross(e, minus(b, a)), row_minus(p, q), row_minus(v, w))
-}
-
-// Whether the cross product of the edge from i to j and an edge of t parts the two, where x and y are the rows of t along
-// the normals of the faces i, j, m and i, j, w.
-pub(crate) fn edge_parts(i: Vector, j: Vector, t: Corners, x: Row, y: Row) -> bool
-    requires { ⌜ (Bounded furthest i × Bounded furthest j) × In-range t × Bounded-row x × Bounded-row y ⌝ }
-    ensures { λ r. ⌜ ((m w : Vector) → x ≡ row-of (normal-of i j m) t → y ≡ row-of (normal-of i j w) t → r ≡ any-parting (crosses-of (difference j i) (edge-vectors t)) (record { a = i; b = j; c = m; d = w }) t) ⌝ }
-{
-    let e = minus(j, i);
-    let p = sides(x, y);
-    let q = across(e, seen_from(i, t));
-    if cross_parts(e, t.a, t.b, p.a, p.b, q.a, q.b) {
+    if edge_parts(c, 0, 1) {
         return true;
     }
-    if cross_parts(e, t.a, t.c, p.a, p.c, q.a, q.c) {
+    if edge_parts(c, 0, 2) {
         return true;
     }
-    if cross_parts(e, t.a, t.d, p.a, p.d, q.a, q.d) {
+    if edge_parts(c, 0, 3) {
         return true;
     }
-    if cross_parts(e, t.b, t.c, p.b, p.c, q.b, q.c) {
+    if edge_parts(c, 1, 2) {
         return true;
     }
-    if cross_parts(e, t.b, t.d, p.b, p.d, q.b, q.d) {
+    if edge_parts(c, 1, 3) {
         return true;
     }
-    cross_parts(e, t.c, t.d, p.c, p.d, q.c, q.d)
-}
-
-// Whether the cross product of an edge of s and an edge of t parts them; x has the rows along the face normals of s.
-pub(crate) fn edges_part(s: Corners, t: Corners, x: Faces) -> bool
-    requires { ⌜ In-range s × In-range t × (x ≡ faces-of s t) ⌝ }
-    ensures { λ r. ⌜ r ≡ any-parting (all-crosses-of (edge-vectors s) (edge-vectors t)) s t ⌝ }
-{
-    if edge_parts(s.a, s.b, t, x.abc, x.abd) {
-        return true;
-    }
-    if edge_parts(s.a, s.c, t, back(x.abc), x.acd) {
-        return true;
-    }
-    if edge_parts(s.a, s.d, t, back(x.abd), back(x.acd)) {
-        return true;
-    }
-    if edge_parts(s.b, s.c, t, x.abc, x.bcd) {
-        return true;
-    }
-    if edge_parts(s.b, s.d, t, x.abd, back(x.bcd)) {
-        return true;
-    }
-    edge_parts(s.c, s.d, t, x.acd, x.bcd)
+    edge_parts(c, 2, 3)
 }
 
 // Whether some direction of the 44 parts the two; left at the first that does.
@@ -356,15 +240,9 @@ pub fn are_apart(points: &[i32], f: Four, g: Four) -> bool
     requires { ⌜ Present (now points) f × Present (now points) g ⌝ }
     ensures { λ r. ⌜ r ≡ apart (points-in (now (points .entry))) f g ⌝ }
 {
-    let s = corner_points(points, f);
-    let t = corner_points(points, g);
-    let x = faces_against(s, t);
-    if x.parted {
+    let c = corner_rows(points, f, g);
+    if any_normal_parts(&c) {
         return true;
     }
-    let y = faces_against(t, s);
-    if y.parted {
-        return true;
-    }
-    edges_part(s, t, x)
+    any_cross_parts(&c)
 }

@@ -11,10 +11,9 @@ use lib.Seq.{drop-cons, drop-length}
 use native.Mathlib.Numerals.{add-one}
 use borrow.Author.Tests.{ltb-true, ltb-false, lt-ltb, le-ltb}
 use Rattle.geometry.specs.Space.{v3, of, points-in, point}
-use Rattle.geometry.specs.declared.tetrahedron.Four.{Four}
-use Rattle.geometry.specs.inner.Vectors.{vector, corners-of}
-use Rattle.geometry.specs.Range.{far, any-far, furthest, Present}
-use Rattle.geometry.specs.inner.Bounded.{Bounded, In-range}
+use Rattle.geometry.specs.inner.Vectors.{vector}
+use Rattle.geometry.specs.Range.{far, any-far, furthest}
+use Rattle.geometry.specs.inner.Bounded.{Bounded}
 use Rattle.geometry.proofs.Numbers.Value.{value-of}
 
 -- three coordinates for each point, and fewer than three left over
@@ -93,9 +92,3 @@ module _ (cs : List ℤ) (near : any-far cs ≡ false) where
   pub point-bounded : (p : ℕ) → p < length (points-in cs) → Bounded furthest (vector (point (points-in cs) p))
   point-bounded p h =
       rw (vector-at cs p h) (record { x = near-at cs (p * 3) near; y = near-at cs (p * 3 + 1) near; z = near-at cs (p * 3 + 2) near })
-
-pub corners-in-range : (cs : List ℤ) (f : Four) → Present cs f → In-range (corners-of (points-in cs) f)
-unfolding corners-of
-corners-in-range cs f h =
-    let b = point-bounded cs (h .near) in
-    record { a = b (f .a) (h .a); b = b (f .b) (h .b); c = b (f .c) (h .c); d = b (f .d) (h .d) }

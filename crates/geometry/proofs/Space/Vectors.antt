@@ -2,7 +2,6 @@
 use mathlib.Core.Path.{_≡_, refl, _∙_}
 use mathlib.Core.List.{[], _∷_}
 use Prim.Native.Nat.{ℕ, _+_, _*_, _≤_}
-use native.Mathlib.Omega.{arith}
 use lib.IntN.{ℤ, natAbs, _+ℤ_, _*ℤ_}
 use mir.Syntax.{w64}
 use Rattle.geometry.specs.Space.{V3, v3, less, cross, dot, det, value}
@@ -28,9 +27,6 @@ pub corners-are :
     {a b c d a′ b′ c′ d′ : Vector} → a ≡ a′ → b ≡ b′ → c ≡ c′ → d ≡ d′ →
     _≡_ {A = Corners} (record { a = a; b = b; c = c; d = d }) (record { a = a′; b = b′; c = c′; d = d′ })
 corners-are p q r s = cc
-
-pub wider : {m n : ℕ} {a : Vector} → m ≤ n → Bounded m a → Bounded n a
-wider h b = let x = b .x in let y = b .y in let w = b .z in record { x = omega arith; y = omega arith; z = omega arith }
 
 -- ---- the vectors of Space.antt, as whole numbers
 pub vector-less : (a b : V3) → vector (less a b) ≡ difference (vector a) (vector b)

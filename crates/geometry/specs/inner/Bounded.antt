@@ -13,10 +13,6 @@ longest = furthest + furthest
 abbrev pub widest : ℕ
 widest = longest * longest + longest * longest
 
--- a value of an edge along a direction
-abbrev pub deepest : ℕ
-deepest = widest * longest + (widest * longest + widest * longest)
-
 -- each coordinate at most n, either way
 pub record Bounded (n : ℕ) (v : Vector) : Type 0 where
   pub x : natAbs (v .x) ≤ n
@@ -32,7 +28,3 @@ pub record All-bounded (n : ℕ) (t : Corners) : Type 0 where
 -- four points in range
 abbrev pub In-range : Corners → Type 0
 In-range t = All-bounded furthest t
-
--- four points seen from one in range
-abbrev pub In-reach : Corners → Type 0
-In-reach t = All-bounded longest t

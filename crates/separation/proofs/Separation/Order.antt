@@ -7,7 +7,7 @@ use lib.Dec.{ltb, leb}
 use lib.IntN.{ℤ, pos, negsuc}
 use lib.Signed.{ltZ, leZ}
 use borrow.Author.Tests.{ltb-true, ltb-false, leb-true, le-leb, lt-leb}
-use Rattle.separation.specs.inner.Rows.{lesser-of, greater-of}
+use Rattle.separation.specs.inner.Extents.{lesser-of, greater-of}
 
 not-below : (a b : ℕ) → not (ltb b a) ≡ leb a b
 not-below a b = go (ltb b a) refl

@@ -1,32 +1,20 @@
 -- `separation::apart::along` meets its contract. Assumes nothing.
 use borrow.Author.Needs.{needs}
-use Rattle.separation.specs.inner.Rows.{row-of}
-use Rattle.separation.proofs.Separation.Rows.{measured-point, row-built}
+use mathlib.Core.Path.{ap, _∙_}
+use Rattle.geometry.specs.inner.Vectors.{dot-product}
+use Rattle.geometry.proofs.Numbers.Machine.{kept}
 use Rattle.separation.proofs.apart.along.Statement.{statement}
 use Rattle.separation.proofs.apart.along.Tie as tie
+
+corner-requires : tie.Need-corner-requires
+corner-requires c κs = search needs
 
 dot-requires : tie.Need-dot-requires
 dot-requires c κs = search needs
 
-dot-requires-2 : tie.Need-dot-requires-2
-dot-requires-2 c κs = search needs
-
-dot-requires-3 : tie.Need-dot-requires-3
-dot-requires-3 c κs = search needs
-
-dot-requires-4 : tie.Need-dot-requires-4
-dot-requires-4 c κs = search needs
-
 returns : tie.Need-returns
-unfolding row-of
 returns c =
-    let s = c .before .before .before .before in
-    let n = s .args .n in
-    let t = s .args .t in
-    row-built (measured-point n (t .a) (c .before .before .before .dot .ensures) (s .pre .0) (s .pre .1 .a))
-    (measured-point n (t .b) (c .before .before .dot2 .ensures) (s .pre .0) (s .pre .1 .b))
-    (measured-point n (t .c) (c .before .dot3 .ensures) (s .pre .0) (s .pre .1 .c))
-    (measured-point n (t .d) (c .dot4 .ensures) (s .pre .0) (s .pre .1 .d))
+    kept (c .dot .result) (c .dot .ok) ∙ c .dot .ensures ∙ ap (dot-product (c .before .before .args .n)) (c .before .corner .ensures .0)
 
 pub along-spec : {M : Type 1} → statement M
-along-spec = tie.close (tie.spec dot-requires dot-requires-2 dot-requires-3 dot-requires-4 returns)
+along-spec = tie.close (tie.spec corner-requires dot-requires returns)

@@ -1,50 +1,34 @@
 -- `separation::apart::are_apart` meets its contract. Assumes nothing.
-use mathlib.Core.Path.{sym, _∙_}
+use mathlib.Core.Path.{refl, sym, _∙_}
 use borrow.Author.Needs.{needs}
 use Rattle.geometry.specs.Space.{points-in}
-use Rattle.separation.specs.inner.Directions.{normals-of}
-use Rattle.separation.proofs.Separation.Tried.{normal-of-one, normal-of-other, edges-decide, normals-at, edges-at, either-first}
+use Rattle.separation.proofs.Separation.Parting.{apart-by-rows}
 use Rattle.separation.proofs.apart.are_apart.Statement.{statement}
 use Rattle.separation.proofs.apart.are_apart.Tie as tie
 
-corner-points-requires : tie.Need-corner-points-requires
-corner-points-requires c κs = search needs
+corner-rows-requires : tie.Need-corner-rows-requires
+corner-rows-requires c κs = search needs
 
-corner-points-requires-2 : tie.Need-corner-points-requires-2
-corner-points-requires-2 c κs = search needs
-
-faces-against-requires : tie.Need-faces-against-requires
-faces-against-requires c κs = search needs
+any-normal-parts-requires : tie.Need-any-normal-parts-requires
+any-normal-parts-requires c κs = c .before .corner-rows .ensures .near
 
 returns : tie.Need-returns
 returns c =
-    let s = c .before .before .before .before .args in
-    let a = c .before .before .before .corner-points .ensures .0 in
-    let b = c .before .before .corner-points2 .ensures .0 in
-    normal-of-one (points-in (s .points .now)) (s .f) (s .g) (sym (normals-at a a b (c .before .faces-against .ensures .told)) ∙ c .if1 .taken)
+    let a = c .before .before .before .before .args in
+    let h = c .before .before .before .corner-rows in
+    sym (apart-by-rows (points-in (a .points .now)) (a .f) (a .g) (h .result) (h .ensures)
+    ∙ rw (sym (c .before .any-normal-parts .ensures), c .if1 .taken) refl)
 
-faces-against-requires-2 : tie.Need-faces-against-requires-2
-faces-against-requires-2 c κs = search needs
+any-cross-parts-requires : tie.Need-any-cross-parts-requires
+any-cross-parts-requires c κs = c .before .before .before .before .corner-rows .ensures .near
 
 returns-2 : tie.Need-returns-2
 returns-2 c =
-    let s = c .before .before .before .before .before .before .args in
-    let a = c .before .before .before .before .before .corner-points .ensures .0 in
-    let b = c .before .before .before .before .corner-points2 .ensures .0 in
-    normal-of-other (points-in (s .points .now)) (s .f) (s .g) (sym (normals-at a a b (c .before .before .before .faces-against .ensures .told)) ∙ c .before .before .if1 .left)
-    (sym (normals-at b a b (c .before .faces-against2 .ensures .told ∙ either-first (c .before .before .before .before .before .corner-points .result) (c .before .before .before .before .corner-points2 .result) (normals-of (c .before .before .before .before .corner-points2 .result)))) ∙ c .if2 .taken)
-
-edges-part-requires : tie.Need-edges-part-requires
-edges-part-requires c κs = (c .before .before .before .before .before .corner-points .ensures .1, c .before .before .before .before .corner-points2 .ensures .1, c .before .before .before .faces-against .ensures .rows (c .before .before .if1 .left))
-
-returns-3 : tie.Need-returns-3
-returns-3 c =
-    let s = c .before .before .before .before .before .before .before .args in
-    let a = c .before .before .before .before .before .before .corner-points .ensures .0 in
-    let b = c .before .before .before .before .before .corner-points2 .ensures .0 in
-    edges-at a b (c .edges-part .ensures)
-    ∙ edges-decide (points-in (s .points .now)) (s .f) (s .g) (sym (normals-at a a b (c .before .before .before .before .faces-against .ensures .told)) ∙ c .before .before .before .if1 .left)
-    (sym (normals-at b a b (c .before .before .faces-against2 .ensures .told ∙ either-first (c .before .before .before .before .before .before .corner-points .result) (c .before .before .before .before .before .corner-points2 .result) (normals-of (c .before .before .before .before .before .corner-points2 .result)))) ∙ c .before .if2 .left)
+    let a = c .before .before .before .before .before .before .args in
+    let h = c .before .before .before .before .before .corner-rows in
+    c .any-cross-parts .ensures
+    ∙ sym (apart-by-rows (points-in (a .points .now)) (a .f) (a .g) (h .result) (h .ensures)
+    ∙ rw (sym (c .before .before .before .any-normal-parts .ensures), c .before .before .if1 .left) refl)
 
 pub are-apart-spec : {M : Type 1} → statement M
-are-apart-spec = tie.close (tie.spec corner-points-requires corner-points-requires-2 faces-against-requires returns faces-against-requires-2 returns-2 edges-part-requires returns-3)
+are-apart-spec = tie.close (tie.spec corner-rows-requires any-normal-parts-requires returns any-cross-parts-requires returns-2)

@@ -1,5 +1,5 @@
 -- `separation::apart::are_clear` meets its contract. Assumes nothing.
-use Rattle.separation.proofs.Separation.Rows.{clear-kept}
+use Rattle.separation.proofs.Separation.Clear.{clear-kept}
 use Rattle.separation.proofs.apart.are_clear.Statement.{statement}
 use Rattle.separation.proofs.apart.are_clear.Tie as tie
 

@@ -1,6 +1,6 @@
 -- `separation::apart::greater` meets its contract. Assumes nothing.
 use mir.Facts.{toZ-ofZ}
-use Rattle.separation.specs.inner.Rows.{greater-of}
+use Rattle.separation.specs.inner.Extents.{greater-of}
 use Rattle.separation.proofs.apart.greater.Statement.{statement}
 use Rattle.separation.proofs.apart.greater.Tie as tie
 

@@ -1,6 +1,6 @@
 -- `separation::apart::lesser` meets its contract. Assumes nothing.
 use mir.Facts.{toZ-ofZ}
-use Rattle.separation.specs.inner.Rows.{lesser-of}
+use Rattle.separation.specs.inner.Extents.{lesser-of}
 use Rattle.separation.proofs.apart.lesser.Statement.{statement}
 use Rattle.separation.proofs.apart.lesser.Tie as tie
 
