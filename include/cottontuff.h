@@ -45,7 +45,7 @@ int main(void) {
 extern "C" {
 #endif
 
-#define COTTONTUFF_VERSION "1.2.0"
+#define COTTONTUFF_VERSION "1.3.0"
 
 /* ---- sizes of a job */
 #define COTTONTUFF_LEAST_POINTS 4                              /* or none at all, with every other list empty: the empty job */
