@@ -70,7 +70,7 @@ extern "C" {
 #define COTTONTUFF_BENCH_TETS 256
 
 /* A stack for cottontuff_search, cottontuff_search_inner, cottontuff_print and cottontuff_bench_replace. Each level of the search's recursion sets a tetrahedron, and no more than 280 can be set at once: the second is
- * proved. A level takes 912 bytes, read off the library, and 481,816 was the deepest that was measured, levels included (docs/BENCHMARKS.md): the compiler's part is not proved. */
+ * proved. A level takes at most 656 bytes, read off the library, and 481,528 was the deepest that was measured, levels included (docs/BENCHMARKS.md): the compiler's part is not proved. */
 #define COTTONTUFF_STACK_BYTES (768 * 1024)
 
 /* ---- what is answered: of the numbers that apply, the one whose place comes first, whatever its size.
