@@ -4,6 +4,7 @@ use crate::trial::judged;
 use crate::trial::searched;
 use crate::trial::trial;
 use checker::check::check_job;
+use comparison::tally::with_comparison;
 use enumerator::read::byte_at;
 use enumerator::tetrahedra::listed;
 use enumerator::tetrahedra::place_of;
@@ -14,7 +15,6 @@ use lines::list::put_integer;
 use lines::tally::Counts;
 use random_jobs::boundary::put_boundary;
 use random_jobs::damage::NOTHING;
-use trials::tally::with_comparison;
 
 // Two points above and below a ring of fourteen, then one more within.
 const RING: [i32; 51] = [

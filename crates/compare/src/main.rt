@@ -4,6 +4,7 @@
 mod limits;
 mod trial;
 
+use comparison::tally::print_tally;
 use enumerator::enumerate::ROOM;
 use libc::STDERR_FILENO;
 use libc::STDIN_FILENO;
@@ -25,7 +26,6 @@ use random_jobs::kept::put_kept;
 use random_jobs::points::put_points;
 use random_jobs::table::put_table;
 use trial::trial;
-use trials::tally::print_tally;
 
 const JOBS: u64 = 3_600;
 

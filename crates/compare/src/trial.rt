@@ -1,5 +1,15 @@
 // One job: the checker against its numbers, the search against the enumerator, the judge against the laws.
 use checker::check::check_job;
+use comparison::buffer::is_written;
+use comparison::buffer::put_pattern;
+use comparison::lists::how_many_lists;
+use comparison::lists::put_list;
+use comparison::tally::LAWS;
+use comparison::tally::REFUSED;
+use comparison::tally::with_answer;
+use comparison::tally::with_comparison;
+use comparison::tally::with_kind;
+use comparison::tally::with_skipped;
 use enumerator::admission::refusal;
 use enumerator::enumerate::MOST;
 use enumerator::enumerate::ROOM;
@@ -11,16 +21,6 @@ use enumerator::rules::worst;
 use judge::judge::judge;
 use lines::tally::Counts;
 use search::search::search;
-use trials::buffer::is_written;
-use trials::buffer::put_pattern;
-use trials::lists::how_many_lists;
-use trials::lists::put_list;
-use trials::tally::LAWS;
-use trials::tally::REFUSED;
-use trials::tally::with_answer;
-use trials::tally::with_comparison;
-use trials::tally::with_kind;
-use trials::tally::with_skipped;
 
 // Compares the search of a job into the buffer: the number, the worst quality and the list, with every byte of the buffer.
 pub fn searched<'a, 'b>(

@@ -1,8 +1,8 @@
--- `trials::buffer::is_written` is safe and ends. Assumes nothing.
+-- `comparison::buffer::is_written` is safe and ends. Assumes nothing.
 use Prim.Native.Nat.{_-_}
 use borrow.Author.Needs.{needs}
-use Rattle.trials.proofs.buffer.is_written.Statement.{statement}
-use Rattle.trials.proofs.buffer.is_written.Tie as tie
+use Rattle.comparison.proofs.buffer.is_written.Statement.{statement}
+use Rattle.comparison.proofs.buffer.is_written.Tie as tie
 
 abbrev Inv-loop : tie.InvT-loop
 Inv-loop answer list i₀ i-end i = Unit {0}

@@ -1,8 +1,8 @@
--- `trials::lists::put_damaged` is safe and ends. Assumes nothing.
+-- `comparison::lists::put_damaged` is safe and ends. Assumes nothing.
 use Prim.Native.Nat.{_-_}
 use borrow.Author.Needs.{needs}
-use Rattle.trials.proofs.lists.put_damaged.Statement.{statement}
-use Rattle.trials.proofs.lists.put_damaged.Tie as tie
+use Rattle.comparison.proofs.lists.put_damaged.Statement.{statement}
+use Rattle.comparison.proofs.lists.put_damaged.Tie as tie
 
 abbrev Inv-loop : tie.InvT-loop
 Inv-loop list n kind out₀ m i₀ i-end out i = Unit {0}

@@ -1,8 +1,8 @@
--- `trials::lists::put_toggled` is safe and ends. Assumes nothing.
+-- `comparison::lists::put_toggled` is safe and ends. Assumes nothing.
 use Prim.Native.Nat.{_-_}
 use borrow.Author.Needs.{needs}
-use Rattle.trials.proofs.lists.put_toggled.Statement.{statement}
-use Rattle.trials.proofs.lists.put_toggled.Tie as tie
+use Rattle.comparison.proofs.lists.put_toggled.Statement.{statement}
+use Rattle.comparison.proofs.lists.put_toggled.Tie as tie
 
 abbrev Inv-loop : tie.InvT-loop
 Inv-loop n list k out₀ len₀ i₀ i-end out len i = Unit {0}

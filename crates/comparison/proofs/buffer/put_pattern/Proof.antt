@@ -1,10 +1,10 @@
--- `trials::buffer::put_pattern` is safe and ends. Assumes nothing.
+-- `comparison::buffer::put_pattern` is safe and ends. Assumes nothing.
 use Prim.Native.Nat.{_-_}
 use mathlib.Core.Path.{_≡_}
 use lib.ListN.{length}
 use borrow.Author.Needs.{needs}
-use Rattle.trials.proofs.buffer.put_pattern.Statement.{statement}
-use Rattle.trials.proofs.buffer.put_pattern.Tie as tie
+use Rattle.comparison.proofs.buffer.put_pattern.Statement.{statement}
+use Rattle.comparison.proofs.buffer.put_pattern.Tie as tie
 
 abbrev Inv-loop : tie.InvT-loop
 Inv-loop out₀ i₀ i-end out i = length out ≡ length out₀

@@ -1,8 +1,8 @@
--- `trials::tally::has_inner_point` is safe and ends. Assumes nothing.
+-- `comparison::tally::has_inner_point` is safe and ends. Assumes nothing.
 use Prim.Native.Nat.{_-_}
 use borrow.Author.Needs.{needs}
-use Rattle.trials.proofs.tally.has_inner_point.Statement.{statement}
-use Rattle.trials.proofs.tally.has_inner_point.Tie as tie
+use Rattle.comparison.proofs.tally.has_inner_point.Statement.{statement}
+use Rattle.comparison.proofs.tally.has_inner_point.Tie as tie
 
 abbrev Inv-loop : tie.InvT-loop
 Inv-loop n triangles corners₀ i₀ i-end corners i = Unit {0}
