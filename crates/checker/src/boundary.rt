@@ -41,7 +41,7 @@ pub(crate) fn any_tri_bad(triangles: &[u8], n: usize) -> bool
 }
 
 // Whether two triangles are one and the same up to turning.
-fn is_same_tri(a: usize, b: usize, c: usize, d: usize, e: usize, f: usize) -> bool
+pub fn is_same_tri(a: usize, b: usize, c: usize, d: usize, e: usize, f: usize) -> bool
     ensures { λ r. ⌜ r ≡ same-tri (tri a b c) (tri d e f) ⌝ }
 {
     ((a == d) & ((b == e) & (c == f)))

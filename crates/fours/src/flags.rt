@@ -1,13 +1,15 @@
 // Flags by the number of a directed triangle, which is the same from whichever corner it is read.
 // Assumes nothing.
 use checker::list::byte;
+use geometry::tetrahedron::Four;
 ghost use mathlib.Core.Path.{_≡_};
 ghost use mathlib.Core.Bool.{not};
 ghost use Prim.Native.Nat.{_<_};
-ghost use Rattle.laws.specs.Laws.{tri};
+ghost use Rattle.laws.specs.Laws.{tri, faces};
 ghost use Rattle.laws.specs.inner.FaceCodes.{face-code};
-ghost use Rattle.laws.specs.inner.FaceFlags.{flagged, flag, flag-all};
+ghost use Rattle.laws.specs.inner.FaceFlags.{flagged, flag, flag-all, all-new};
 ghost use Rattle.laws.specs.inner.Listed.{triangles-in, All-within};
+ghost use Rattle.laws.specs.inner.ListedFours.{Below};
 
 // The number of the triangle a, b, c: its points to the base 16, the least one first.
 fn face_code(a: usize, b: usize, c: usize) -> usize
@@ -41,6 +43,18 @@ pub fn raise(flags: &mut [u8; 4096], a: usize, b: usize, c: usize) -> bool
     let old = flags[code];
     flags[code] = 1;
     !(0 < old)
+}
+
+// Raises the flags of the outward faces of f; whether each was down before.
+pub fn raise_faces(flags: &mut [u8; 4096], f: Four) -> bool
+    requires { ⌜ Below 16 f ⌝ }
+    ensures { λ r. ⌜ (r ≡ all-new (faces f) (now (flags .entry))) × (now (flags .exit) ≡ flag-all (faces f) (now (flags .entry))) ⌝ }
+{
+    let d = raise(flags, f.b, f.c, f.d);
+    let c = raise(flags, f.a, f.d, f.c);
+    let b = raise(flags, f.a, f.b, f.d);
+    let a = raise(flags, f.a, f.c, f.b);
+    a & (b & (c & d))
 }
 
 // Raises the flags of the boundary triangles, from the last to the first.

@@ -5,7 +5,7 @@ use geometry::tetrahedron::Four;
 ghost use mathlib.Core.Path.{_≡_};
 ghost use Prim.Native.Nat.{_/_, _<_};
 ghost use lib.ListN.{length};
-ghost use Rattle.laws.specs.Laws.{corner-of};
+ghost use Rattle.laws.specs.Laws.{corner-of, four-before};
 ghost use Rattle.laws.specs.inner.ListedFours.{four-at};
 
 // The i-th four of a list.
@@ -26,4 +26,13 @@ pub fn has_corner(f: Four, p: usize) -> bool
     ensures { λ r. ⌜ r ≡ corner-of p f ⌝ }
 {
     ((p == f.a) | (p == f.b)) | ((p == f.c) | (p == f.d))
+}
+
+// Whether f comes before g.
+pub fn is_before(f: Four, g: Four) -> bool
+    ensures { λ r. ⌜ r ≡ four-before f g ⌝ }
+{
+    (f.a < g.a)
+        | ((f.a == g.a)
+            & ((f.b < g.b) | ((f.b == g.b) & ((f.c < g.c) | ((f.c == g.c) & (f.d < g.d))))))
 }

@@ -3,8 +3,8 @@
 // Assumes nothing.
 use checker::list::byte;
 use fours::flags::is_flagged;
-use fours::flags::raise;
 use fours::flags::raise_boundary;
+use fours::flags::raise_faces;
 use fours::list::four_at;
 use geometry::tetrahedron::Four;
 use geometry::tetrahedron::oriented;
@@ -20,19 +20,7 @@ ghost use Rattle.laws.specs.inner.Listed.{triangles-in, All-within};
 ghost use Rattle.laws.specs.inner.ListedFours.{fours-listed, Well-listed, Below};
 ghost use Rattle.laws.specs.inner.FaceFlags.{flag-all, all-new, all-flagged, closed, all-closed};
 
-// Raises the flags of the outward faces of f; whether each was down before.
-fn raise_faces(flags: &mut [u8; 4096], f: Four) -> bool
-    requires { ⌜ Below 16 f ⌝ }
-    ensures { λ r. ⌜ (r ≡ all-new (faces f) (now (flags .entry))) × (now (flags .exit) ≡ flag-all (faces f) (now (flags .entry))) ⌝ }
-{
-    let d = raise(flags, f.b, f.c, f.d);
-    let c = raise(flags, f.a, f.d, f.c);
-    let b = raise(flags, f.a, f.b, f.d);
-    let a = raise(flags, f.a, f.c, f.b);
-    a & (b & (c & d))
-}
-
-// The same for the whole list, from its last four to its first.
+// Raises the flags of the outward faces of the whole list, from its last four to its first; whether each was down before.
 pub(crate) fn raise_all_faces(points: &[i32], list: &[u8], flags: &mut [u8; 4096]) -> bool
     requires { ⌜ Well-listed (now points) (now list) ⌝ }
     ensures { λ r. ⌜ (r ≡ all-new (all-faces (points-in (now (points .entry))) (fours-listed (now (list .entry)))) (now (flags .entry))) × (now (flags .exit) ≡ flag-all (all-faces (points-in (now (points .entry))) (fours-listed (now (list .entry)))) (now (flags .entry))) ⌝ }

@@ -1,13 +1,14 @@
 // The order of a list's fours (document 01, law 1).
 // Assumes nothing.
 use fours::list::four_at;
+use fours::list::is_before;
 use geometry::tetrahedron::Four;
 ghost use mathlib.Core.Path.{_≡_};
 ghost use mathlib.Core.Bool.{_&&_};
 ghost use Prim.Native.Nat.{_/_, _<_};
 ghost use lib.Dec.{ltb};
 ghost use lib.ListN.{length};
-ghost use Rattle.laws.specs.Laws.{rising, four-before, law-1};
+ghost use Rattle.laws.specs.Laws.{rising, law-1};
 ghost use Rattle.laws.specs.inner.ListedFours.{fours-listed, followed};
 
 // Whether f has increasing numbers of present points.
@@ -15,15 +16,6 @@ fn is_well_formed(f: Four, n: usize) -> bool
     ensures { λ r. ⌜ r ≡ (rising f && ltb (f .d) n) ⌝ }
 {
     ((f.a < f.b) & ((f.b < f.c) & (f.c < f.d))) & (f.d < n)
-}
-
-// Whether f comes before g.
-fn is_before(f: Four, g: Four) -> bool
-    ensures { λ r. ⌜ r ≡ four-before f g ⌝ }
-{
-    (f.a < g.a)
-        | ((f.a == g.a)
-            & ((f.b < g.b) | ((f.b == g.b) & ((f.c < g.c) | ((f.c == g.c) & (f.d < g.d))))))
 }
 
 // Whether the i-th four is the last, or comes before the next.

@@ -1,8 +1,8 @@
--- `judge::faces::raise_faces` meets its contract. Assumes nothing.
+-- `fours::flags::raise_faces` meets its contract. Assumes nothing.
 use Rattle.laws.proofs.Faces.FlagSteps.{faces-raised}
 use borrow.Author.Needs.{needs}
-use Rattle.judge.proofs.faces.raise_faces.Statement.{statement}
-use Rattle.judge.proofs.faces.raise_faces.Tie as tie
+use Rattle.fours.proofs.flags.raise_faces.Statement.{statement}
+use Rattle.fours.proofs.flags.raise_faces.Tie as tie
 
 raise-requires : tie.Need-raise-requires
 raise-requires c κs = search needs
