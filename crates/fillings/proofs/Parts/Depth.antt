@@ -38,7 +38,7 @@ shares-with-itself ps f h =
     let g = turned ps f in
     let t = tri (g .a) (g .c) (g .b) in unshared-true ps f f h t (here (same-refl t)) (here (same-refl t))
 
-formed : {n : ℕ} {f : Four} → Ordered n f → Well-formed n f
+pub formed : {n : ℕ} {f : Four} → Ordered n f → Well-formed n f
 unfolding rising
 formed {n} {f} u = record { up = and-of (lt-ltb (f .a) (f .b) (u .ab)) (and-of (lt-ltb (f .b) (f .c) (u .bc)) (lt-ltb (f .c) (f .d) (u .cd))); below = u .dn }
 

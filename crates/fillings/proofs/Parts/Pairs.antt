@@ -20,12 +20,12 @@ use Rattle.laws.proofs.Faces.Owners.{face-has-one-owner}
 use Rattle.fillings.specs.Part.{shares, unshared, compatible}
 
 -- ---- `shares`: a common face
-shares-false : {t : Tri} (xs ys : List Tri) → shares xs ys ≡ false → Has t xs → Has t ys → ⊥
+pub shares-false : {t : Tri} (xs ys : List Tri) → shares xs ys ≡ false → Has t xs → Has t ys → ⊥
 unfolding shares
 shares-false (x ∷ xs) ys h (here e) k = has-false (or-false (has x ys) (shares xs ys) h .0) (has-same (same-sym e) k)
 shares-false (x ∷ xs) ys h (there m) k = shares-false xs ys (or-false (has x ys) (shares xs ys) h .1) m k
 
-shares-false-of : (xs ys : List Tri) → ((t : Tri) → Has t xs → Has t ys → ⊥) → shares xs ys ≡ false
+pub shares-false-of : (xs ys : List Tri) → ((t : Tri) → Has t xs → Has t ys → ⊥) → shares xs ys ≡ false
 unfolding shares
 shares-false-of [] ys h = refl
 shares-false-of (x ∷ xs) ys h = or-false-of (has-false-of x ys (h x (here (same-refl x)))) (shares-false-of xs ys (λ t m. h t (there m)))

@@ -74,7 +74,7 @@ fours-in-same (suc n) xs ys h =
 abbrev pub four-of : (k : ℕ) → List ℕ → Four
 four-of k xs = four (getD xs (k * 4) 0) (getD xs (k * 4 + 1) 0) (getD xs (k * 4 + 2) 0) (getD xs (k * 4 + 3) 0)
 
-four-of-equal : {a b c d e f g h : ℕ} → a ≡ e → b ≡ f → c ≡ g → d ≡ h → four a b c d ≡ four e f g h
+pub four-of-equal : {a b c d e f g h : ℕ} → a ≡ e → b ≡ f → c ≡ g → d ≡ h → four a b c d ≡ four e f g h
 four-of-equal p q r s = cc
 
 four-of-drop : (k : ℕ) (xs : List ℕ) → four-of k (drop 4 xs) ≡ four-of (suc k) xs

@@ -18,7 +18,7 @@ use Rattle.laws.proofs.Choice.Conditions.{keeps}
 use Rattle.laws.proofs.Order.ListOrder.{list-before-trans, list-discrete, list-trichotomy}
 use Rattle.laws.proofs.Order.Sublists.{sublists, law-1-sublist}
 
-beats-self : (j : Job) (fs gs : List Four) → gs ≡ fs → Beats j fs gs
+pub beats-self : (j : Job) (fs gs : List Four) → gs ≡ fs → Beats j fs gs
 beats-self j fs gs e = let w : worst j gs ≡ worst j fs = ap (worst j) e in (omega arith, λ p n. absurd (n e))
 
 beats-total : (j : Job) (fs gs : List Four) → Beats j fs gs ⊎ Beats j gs fs
@@ -31,7 +31,7 @@ beats-total j fs gs = go (decLt (worst j fs) (worst j gs)) (decLt (worst j gs) (
     go (no l) (no k) (inr (inl b)) = inl (omega arith, λ e n. b)
     go (no l) (no k) (inr (inr b)) = inr (omega arith, λ e n. b)
 
-beats-trans : (j : Job) (fs gs hs : List Four) → Beats j fs gs → Beats j gs hs → Beats j fs hs
+pub beats-trans : (j : Job) (fs gs hs : List Four) → Beats j fs gs → Beats j gs hs → Beats j fs hs
 beats-trans j fs gs hs p q = (omega arith, λ e n. go e n (list-discrete gs fs) (list-discrete hs gs))
   where
     go : worst j hs ≡ worst j fs → (hs ≡ fs → ⊥) → Dec (gs ≡ fs) → Dec (hs ≡ gs) → list-before fs hs ≡ true

@@ -16,7 +16,7 @@ use Rattle.laws.proofs.Basics.Passes.{Test}
 use Rattle.laws.proofs.Judge.FourList.{fours-start, fours-more, fours-done}
 
 -- ---- lists joined
-flag-append : (xs ys : List Tri) (fl : List ℕ) → flag-all (xs ++ ys) fl ≡ flag-all xs (flag-all ys fl)
+pub flag-append : (xs ys : List Tri) (fl : List ℕ) → flag-all (xs ++ ys) fl ≡ flag-all xs (flag-all ys fl)
 unfolding flag-all
 flag-append [] ys fl = refl
 flag-append (x ∷ xs) ys fl = ap (λ (k : List ℕ). flag k x) (flag-append xs ys fl)

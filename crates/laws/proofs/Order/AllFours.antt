@@ -17,7 +17,7 @@ use Rattle.laws.proofs.Order.FourOrder.{before-by-a, before-by-b, befor
 use Rattle.laws.proofs.Order.Sorted.{Sorted, start, next, sorted-append, Well-formed, increasing}
 
 -- ---- members of the parts
-from-member : (left i x : ℕ) → i ≤ x → x < i + left → Any (λ y. x ≡ y) (from left i)
+pub from-member : (left i x : ℕ) → i ≤ x → x < i + left → Any (λ y. x ≡ y) (from left i)
 unfolding from
 from-member zero i x p q = absurd (omega arith)
 from-member (suc n) i x p q = go (decLt i x) (from-member n (suc i) x)
