@@ -29,7 +29,7 @@ int main(void) {
  *   1 2 3 4
  *
  * What holds for every function
- * - It takes any lists and answers: a filling, a verdict, or one of the numbers below. Nothing need be looked at first.
+ * - It takes any lists and answers: a filling, a verdict, or one of the numbers below; cottontuff_search_limited also that its limit is spent. Nothing need be looked at first.
  * - The caller owns all memory. Nothing is allocated, freed or kept; there is no state between calls, so threads may call at the same time.
  * - A list is a pointer and its count of elements (not of points or triangles). With count 0 the pointer may be anything, also NULL.
  *   A list may not overlap a buffer that is written to.
@@ -45,7 +45,7 @@ int main(void) {
 extern "C" {
 #endif
 
-#define COTTONTUFF_VERSION "1.3.0"
+#define COTTONTUFF_VERSION "1.4.0"
 
 /* ---- sizes of a job */
 #define COTTONTUFF_LEAST_POINTS 4                              /* or none at all, with every other list empty: the empty job */
@@ -69,8 +69,9 @@ extern "C" {
 #define COTTONTUFF_BENCH_POINTS 64
 #define COTTONTUFF_BENCH_TETS 256
 
-/* A stack for cottontuff_search, cottontuff_search_inner, cottontuff_print and cottontuff_bench_replace. Each level of the search's recursion sets a tetrahedron, and no more than 280 can be set at once: the second is
- * proved. A level takes at most 656 bytes, read off the library, and 481,528 was the deepest that was measured, levels included (docs/BENCHMARKS.md): the compiler's part is not proved. */
+/* A stack for cottontuff_search, cottontuff_search_inner, cottontuff_search_limited, cottontuff_print and cottontuff_bench_replace. Each level of the search's recursion sets a tetrahedron, and no more than 280 can be set at once: the second is
+ * proved. A level takes at most 656 bytes, read off the library, and 481,528 was the deepest that was measured, levels included (docs/BENCHMARKS.md): the compiler's part is not proved.
+ * The limited search has a recursion of its own, of at most 280 levels too, which is proved: TODO-FIGURE bytes a level, TODO-FIGURE the deepest that was measured. */
 #define COTTONTUFF_STACK_BYTES (768 * 1024)
 
 /* ---- what is answered: of the numbers that apply, the one whose place comes first, whatever its size.
@@ -159,6 +160,32 @@ cottontuff_found cottontuff_search(const int32_t *points, size_t points_len, con
 cottontuff_found cottontuff_search_inner(const int32_t *points, size_t points_len, const uint8_t *triangles, size_t triangles_len,
                                          const uint8_t *kept, size_t kept_len, const uint8_t *inner, size_t inner_len,
                                          const int32_t *table, size_t table_len, uint8_t *answer, size_t answer_len);
+
+/* ---- the limited search: gives up after so many trials, as mesh improvement may want to
+ * Its order is fixed, so the same limit gives the same answer on every machine. It goes to the lowest open face: one that no set tetrahedron has outward, and that is a boundary triangle or the reverse of a set one's face
+ * that is no boundary triangle; faces are written from their smallest number and compared as three numbers. There it tries the corners 0, 1, 2, .. in turn. A trial is a corner that is set: with the face it makes a
+ * tetrahedron that is not flat, not barred, has no point inside, has that face outward, has no outward face that a set one has or that is the reverse of a boundary triangle, is apart from all that are set, and whose
+ * quality is not below the worst of the best filling found so far. Each is counted, also where nothing comes of it. Kept edges, inner triangles and points that no tetrahedron meets are looked at when no face is open.
+ *
+ * Spent is answered exactly where the order, followed without a limit, counts more trials than the limit.
+ * - Not spent: the answer is that of cottontuff_search_inner to the byte, the best filling or 15. 15 is given only here: no lawful filling exists.
+ * - Spent: the best filling found within the limit, of equals the list that comes first, with number 0. With count 0 none was found within the limit, which does not say that there is none.
+ * A larger limit never gives a lower worst quality, nor none where a smaller one gives a filling. A filling that is answered is lawful, spent or not.
+ *
+ * This is not the quick way: 2,000 trials often find far less than the whole search does in a millisecond, and all 4,294,967,295 take hours. Who wants no limit calls cottontuff_search_inner. */
+typedef struct {
+    uint32_t number; /* 0; or 15, with the trials made; or 2 to 14, 22 or 23, and then the rest is 0. Spent is no number. */
+    uint32_t spent;  /* 1: the limit stopped it; 0: it came to its end */
+    uint32_t count;  /* tetrahedra of the filling; 0 with spent 1: none found within the limit; 0 with number 0 and spent 0: the empty job */
+    uint32_t worst;  /* their least quality, in millionths; 1,000,000 for the empty job, 0 where there is no filling */
+    uint32_t trials; /* how many were made, never above the limit */
+} cottontuff_limited;
+
+/* The best filling within a limit on trials: 4 * count bytes at the start of answer, as cottontuff_search_inner writes them. The bytes behind them keep their values of before the call; where no filling is answered, every
+ * byte does. limit: 0 to 4,294,967,295. */
+cottontuff_limited cottontuff_search_limited(const int32_t *points, size_t points_len, const uint8_t *triangles, size_t triangles_len,
+                                             const uint8_t *kept, size_t kept_len, const uint8_t *inner, size_t inner_len,
+                                             const int32_t *table, size_t table_len, uint32_t limit, uint8_t *answer, size_t answer_len);
 
 /* ---- measuring */
 typedef struct {

@@ -1,8 +1,9 @@
 //! Cottontuff, the cavity kernel, for Rust: the functions of include/cottontuff.h behind safe ones. The field names and numbers are those of documents 01 and 02.
 //!
 //! `rt staticlib cottontuff` writes target/staticlib/libcottontuff.a; then `rustc -L native=target/staticlib` links a crate that has this file as a module.
-//! Every function takes any lists and answers: a filling, a verdict, or a `Number`. Nothing here panics on an input, and a refusal changes no lent byte.
-//! The search, the printout and `Bench::replace` want a thread with 768 KB of stack; threads of std have 2 MB.
+//! Every function takes any lists and answers: a filling, a verdict, or a `Number`; `search_limited` also that its limit is spent. Nothing here panics on
+//! an input, and a refusal changes no lent byte.
+//! The searches, the printout and `Bench::replace` want a thread with 768 KB of stack; threads of std have 2 MB.
 //!
 //! ```
 //! use cottontuff::{search, Job, Number};
@@ -52,6 +53,18 @@ pub mod c {
         pub number: u32,
         pub count: u32,
         pub worst: u32,
+    }
+
+    /// `number`: 0; or 15, with the `trials` made; or 2 to 14, 22 or 23, and then the rest is 0. `spent`: 1 where the limit stopped it, else 0. `count` and
+    /// `worst`: of the filling, 0 where there is none; for the empty job 0 and 1,000,000.
+    #[repr(C)]
+    #[derive(Clone, Copy, Debug, PartialEq, Eq)]
+    pub struct Limited {
+        pub number: u32,
+        pub spent: u32,
+        pub count: u32,
+        pub worst: u32,
+        pub trials: u32,
     }
 
     /// `number`: 0, or 3 or 16, and then the rest is 0. `flat`: 1 or 0; where it is 1, `d`, `shape` and `millionths` are 0.
@@ -152,6 +165,21 @@ pub mod c {
             answer: *mut u8,
             answer_len: usize,
         ) -> Found;
+        pub fn cottontuff_search_limited(
+            points: *const i32,
+            points_len: usize,
+            triangles: *const u8,
+            triangles_len: usize,
+            kept: *const u8,
+            kept_len: usize,
+            inner: *const u8,
+            inner_len: usize,
+            table: *const i32,
+            table_len: usize,
+            limit: u32,
+            answer: *mut u8,
+            answer_len: usize,
+        ) -> Limited;
         pub fn cottontuff_measure(coordinates: *const i32, coordinates_len: usize) -> Measured;
         pub fn cottontuff_measure_table(
             points: *const i32,
@@ -295,6 +323,23 @@ pub struct Filling {
     pub worst: u32,
 }
 
+/// How a limited search ended.
+#[derive(Clone, Copy, Debug, PartialEq, Eq)]
+pub enum Ending {
+    /// It came to its end: the filling is that of `search`, or there is none at all.
+    Complete,
+    /// It would have made more trials than the limit: the filling is the best of those made, and where there is none, none was found among them.
+    Spent,
+}
+
+/// What a limited search found, and how many trials it made, at most the limit.
+#[derive(Clone, Debug, PartialEq, Eq)]
+pub struct Limited {
+    pub ending: Ending,
+    pub filling: Option<Filling>,
+    pub trials: u32,
+}
+
 /// A measurement. `s` is the sum of the six squared edge lengths, `d` the determinant, above 0; both without loss.
 #[derive(Clone, Copy, Debug, PartialEq)]
 pub enum Measured {
@@ -375,8 +420,74 @@ pub fn search_into(job: &Job, answer: &mut [u8]) -> Result<Found, Number> {
 pub fn search(job: &Job) -> Result<Filling, Number> {
     let mut answer = [0; ANSWER_BYTES];
     let found = search_into(job, &mut answer)?;
-    let fours = answer.chunks_exact(4).take(found.count).map(|f| [f[0], f[1], f[2], f[3]]).collect();
-    Ok(Filling { fours, worst: found.worst })
+    Ok(filling_in(&answer, found.count, found.worst))
+}
+
+fn filling_in(answer: &[u8], count: usize, worst: u32) -> Filling {
+    let fours = answer.chunks_exact(4).take(count).map(|f| [f[0], f[1], f[2], f[3]]).collect();
+    Filling { fours, worst }
+}
+
+/// The best filling within a limit on trials; 2 to 13, 22 or 23 where the job is refused. `include/cottontuff.h` says what a trial is.
+///
+/// A job without a lawful filling is no refusal here: the search comes to its end, `Ending::Complete`, with no filling and the trials that it made; so
+/// `Err(Number::NO_FILLING)` is never given, and `ending` alone tells "there is none" from "none was found within the limit". A larger limit never gives a
+/// lower worst quality, and `Ending::Complete` the answer of `search`. It is not the quick way: 2,000 trials often find far less than `search` does in a
+/// millisecond, and a run of `u32::MAX` takes hours.
+///
+/// ```
+/// use cottontuff::{search_limited, Ending, Job, Number};
+///
+/// let job = Job {
+///     points: &[0, 0, 0, 6, 0, 0, 0, 6, 0, 1, 1, 5, 1, 1, -5],
+///     triangles: &[0, 1, 3, 1, 2, 3, 2, 0, 3, 1, 0, 4, 2, 1, 4, 0, 2, 4],
+///     table: &[500000, 400000, 450000, 450000, 460000],
+///     ..Job::default()
+/// };
+/// // Two trials complete the first filling, five are all there are.
+/// for (limit, ending, worst) in [
+///     (0, Ending::Spent, None),
+///     (1, Ending::Spent, None),
+///     (2, Ending::Spent, Some(400000)),
+///     (3, Ending::Spent, Some(400000)),
+///     (4, Ending::Spent, Some(400000)),
+///     (5, Ending::Complete, Some(450000)),
+/// ] {
+///     let limited = search_limited(&job, limit)?;
+///     assert_eq!((limited.ending, limited.trials), (ending, limit));
+///     assert_eq!(limited.filling.map(|filling| filling.worst), worst);
+/// }
+/// assert_eq!(search_limited(&job, 2000)?.trials, 5);
+/// # Ok::<(), Number>(())
+/// ```
+pub fn search_limited(job: &Job, limit: u32) -> Result<Limited, Number> {
+    let Job { points, triangles, kept, inner, table } = *job;
+    let mut answer = [0; ANSWER_BYTES];
+    // SAFETY: each pointer and length are those of a slice; the function writes to `answer` alone, which no other slice overlaps.
+    let limited = unsafe {
+        c::cottontuff_search_limited(
+            points.as_ptr(),
+            points.len(),
+            triangles.as_ptr(),
+            triangles.len(),
+            kept.as_ptr(),
+            kept.len(),
+            inner.as_ptr(),
+            inner.len(),
+            table.as_ptr(),
+            table.len(),
+            limit,
+            answer.as_mut_ptr(),
+            answer.len(),
+        )
+    };
+    let filling = match limited {
+        c::Limited { number: 15, .. } | c::Limited { number: 0, spent: 1, count: 0, .. } => None,
+        c::Limited { number: 0, count, worst, .. } => Some(filling_in(&answer, count as usize, worst)),
+        c::Limited { number, .. } => return Err(Number(number)),
+    };
+    let ending = if limited.spent == 0 { Ending::Complete } else { Ending::Spent };
+    Ok(Limited { ending, filling, trials: limited.trials })
 }
 
 /// Measures the tetrahedron of twelve coordinates, in whichever order of its corners; else 3 or 16.
@@ -635,6 +746,73 @@ mod tests {
         assert_eq!(check(&Job { table: &[], ..with_inner(&[0]) }), Err(Number::INNER_COUNT));
         assert_eq!(check(&Job { table: &[], ..with_inner(&[0, 1, 5]) }), Err(Number::BAD_INNER));
         assert_eq!(search_into(&with_inner(&[0, 1, 5]), &mut []), Err(Number::BAD_INNER));
+    }
+
+    fn limited(ending: Ending, filling: Option<(&[[u8; 4]], u32)>, trials: u32) -> Result<Limited, Number> {
+        let filling = filling.map(|(fours, worst)| Filling { fours: fours.to_vec(), worst });
+        Ok(Limited { ending, filling, trials })
+    }
+
+    #[test]
+    fn case_b_within_a_limit() {
+        let job = b(&[], &B_TABLE);
+        let two: Option<(&[[u8; 4]], u32)> = Some((&[[0, 1, 2, 3], [0, 1, 2, 4]], 400000));
+        let three: Option<(&[[u8; 4]], u32)> = Some((&[[0, 1, 3, 4], [0, 2, 3, 4], [1, 2, 3, 4]], 450000));
+        for (limit, filling) in [None, None, two, two, two].into_iter().enumerate() {
+            let limit = limit as u32;
+            assert_eq!(search_limited(&job, limit), limited(Ending::Spent, filling, limit));
+        }
+        for limit in [5, 6, 2000, u32::MAX] {
+            assert_eq!(search_limited(&job, limit), limited(Ending::Complete, three, 5));
+        }
+        // Of equals the list that comes first: the two are found first and stay.
+        let mut table = B_TABLE;
+        table[2] = 400000;
+        assert_eq!(search_limited(&b(&[], &table), 5), limited(Ending::Complete, two, 5));
+    }
+
+    #[test]
+    fn kept_edges_speak_at_the_end() {
+        // The two close the boundary at the second trial, and have no edge 3 4.
+        let job = b(&[3, 4], &B_TABLE);
+        assert_eq!(search_limited(&job, 4), limited(Ending::Spent, None, 4));
+        assert_eq!(search_limited(&job, 5).map(|l| l.filling), search(&job).map(Some));
+    }
+
+    #[test]
+    fn the_empty_job_has_no_trial() {
+        for limit in [0, 1, u32::MAX] {
+            assert_eq!(search_limited(&Job::default(), limit), limited(Ending::Complete, Some((&[], 1_000_000)), 0));
+        }
+    }
+
+    #[test]
+    fn no_filling_is_told_with_its_trials() {
+        let mut table = B_TABLE;
+        table[1] = 0;
+        table[2] = 0;
+        let job = b(&[], &table);
+        assert_eq!(search(&job), Err(Number::NO_FILLING));
+        assert_eq!(search_limited(&job, 0), limited(Ending::Spent, None, 0));
+        for limit in [1, 2, u32::MAX] {
+            assert_eq!(search_limited(&job, limit), limited(Ending::Complete, None, 1));
+        }
+        // Nothing at all may be set.
+        for limit in [0, 1] {
+            assert_eq!(search_limited(&b(&[], &[0; 5]), limit), limited(Ending::Complete, None, 0));
+        }
+    }
+
+    #[test]
+    fn a_limit_refuses_what_the_search_refuses() {
+        let mut table = B_TABLE;
+        table[0] = -1;
+        for limit in [0, 5] {
+            assert_eq!(search_limited(&b(&[], &table), limit), Err(Number::UNMEASURED));
+            assert_eq!(search_limited(&b(&[0], &table), limit), Err(Number::KEPT_COUNT));
+            assert_eq!(search_limited(&with_inner(&[0, 1, 5]), limit), Err(Number::BAD_INNER));
+            assert_eq!(search_limited(&Job { table: &B_TABLE, ..Job::default() }, limit), Err(Number::POINT_COUNT));
+        }
     }
 
     // Sixteen points on a curve; the boundary is that of the first four.

@@ -4,47 +4,7 @@
 //     P;T;E;K;Q;LIST;RESULT                      five lists and a list of fours; W,worst or L,law or R,number
 //     JOB;LIST;RESULT                            the same, the job in JOB.txt beside the file
 // Ends in 'N passed, M failed'.
-#include "job.h"
-
-// As long as the longest buffer of a row, and longer.
-enum { FIELDS = 8, MOST = 1 << 17 };
-
-static int32_t points[MOST], table[MOST];
-static uint8_t triangles[MOST], kept[MOST], inner[MOST], list[MOST];
-static size_t points_len, triangles_len, kept_len, inner_len, table_len;
-static int passed, failed;
-
-#define FOUR_LISTS points, points_len, triangles, triangles_len, kept, kept_len, table, table_len
-#define FIVE_LISTS points, points_len, triangles, triangles_len, kept, kept_len, inner, inner_len, table, table_len
-
-static size_t numbers(char *from, int32_t *to) {
-    size_t n = 0;
-    for (char *p = strtok(from, ", "); p && n < MOST; p = strtok(NULL, ", ")) to[n++] = atoi(p);
-    return n;
-}
-
-static size_t bytes(char *from, uint8_t *to) {
-    static int32_t wide[MOST];
-    size_t n = numbers(from, wide);
-    for (size_t i = 0; i < n; i++) to[i] = (uint8_t)wide[i];
-    return n;
-}
-
-static void read_lists(char **field) {
-    points_len = numbers(field[0], points), triangles_len = bytes(field[1], triangles), kept_len = bytes(field[2], kept);
-    inner_len = bytes(field[3], inner), table_len = numbers(field[4], table);
-}
-
-static int read_stored(const char *file, const char *name) {
-    static char path[4096];
-    const char *slash = strrchr(file, '/');
-    snprintf(path, sizeof path, "%.*s%s.txt", slash ? (int)(slash - file) + 1 : 0, file, name);
-    if (!read_job(path)) return 0;
-    points_len = 3 * (size_t)j.np, triangles_len = 3 * (size_t)j.nt, kept_len = 2 * (size_t)j.ne, inner_len = 3 * (size_t)j.nk, table_len = j.entries;
-    memcpy(points, j.points, sizeof *points * points_len), memcpy(table, j.table, sizeof *table * table_len);
-    memcpy(triangles, j.triangles, triangles_len), memcpy(kept, j.kept, kept_len), memcpy(inner, j.inner, inner_len);
-    return 1;
-}
+#include "rows.h"
 
 // Whether the search gives this answer and touches nothing behind it, and checker and judge agree with it.
 static int is_found(size_t room, const char *wanted, char *fours) {
@@ -80,10 +40,7 @@ static int is_judged(char *fours, const char *wanted) {
     return strcmp(got, wanted) == 0;
 }
 
-static int is_right(const char *file, char *row) {
-    char *field[FIELDS];
-    int n = 0;
-    for (char *p; n < FIELDS && (p = strsep(&row, ";")); n++) field[n] = p;
+static int is_right(const char *file, char **field, int n) {
     if (n == 3) return read_stored(file, field[0]) && is_judged(field[1], field[2]);
     if (n < 7) return 0;
     read_lists(field);
@@ -91,20 +48,7 @@ static int is_right(const char *file, char *row) {
 }
 
 int main(int argc, char **argv) {
-    static char row[1 << 20];
-    for (int i = 1; i < argc; i++) {
-        FILE *f = fopen(argv[i], "r");
-        for (int k = 1; f && fgets(row, sizeof row, f); k++) {
-            row[strcspn(row, "\n")] = 0;
-            if (is_right(argv[i], row)) {
-                passed++;
-            } else {
-                failed++;
-                printf("%s, row %d\n", argv[i], k);
-            }
-        }
-        if (f) fclose(f);
-    }
+    for (int i = 1; i < argc; i++) play(argv[i], is_right);
     printf("%d passed, %d failed\n", passed, failed);
     return failed != 0 || passed == 0;
 }

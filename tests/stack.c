@@ -1,19 +1,23 @@
 // How deep the stack gets: what is asked of each file runs in a thread on a painted stack.
-//   stack FILE ..     NAME.txt, a job: its printout, the search in it; NAME.mesh, P and H lines: open, grow three times and replace at every tetrahedron
-#include "../include/cottontuff.h"
+//   stack FILE ..          NAME.txt, a job: its printout, the search in it; NAME.mesh, P and H lines: open, grow three times and replace at every tetrahedron
+//   stack -l LIMIT FILE .. NAME.txt, a job: the limited search
+#include "job.h"
 
 #include <pthread.h>
-#include <stdio.h>
-#include <stdlib.h>
-#include <string.h>
 
-enum { STACK = 16 << 20, PAINT = 0xa5, TEXT = COTTONTUFF_TEXT_BYTES + 1 };
+enum { STACK = 16 << 20, PAINT = 0xa5 };
 
-static uint8_t *stack, text[TEXT + 1], printout[COTTONTUFF_PRINT_BYTES];
+static uint8_t *stack, printout[COTTONTUFF_PRINT_BYTES], answer[ANSWER];
 static size_t length;
+static uint32_t limit;
 
 static void *print(void *unused) {
-    cottontuff_print(text, length, printout, sizeof printout);
+    cottontuff_print((uint8_t *)text, length, printout, sizeof printout);
+    return unused;
+}
+
+static void *try_corners(void *unused) {
+    cottontuff_search_limited(j.points, 3 * (size_t)j.np, j.triangles, 3 * (size_t)j.nt, j.kept, 2 * (size_t)j.ne, j.inner, 3 * (size_t)j.nk, j.table, j.entries, limit, answer, ANSWER);
     return unused;
 }
 
@@ -22,7 +26,7 @@ static void *replay(void *unused) {
     static uint8_t tets[4 * COTTONTUFF_BENCH_TETS];
     size_t np = 0, nt = 0;
     int a, b, c, d;
-    for (char *line = strtok((char *)text, "\n"); line; line = strtok(NULL, "\n")) {
+    for (char *line = strtok(text, "\n"); line; line = strtok(NULL, "\n")) {
         if (sscanf(line, "P,%d,%d,%d", &a, &b, &c) == 3 && np + 3 <= 3 * COTTONTUFF_BENCH_POINTS)
             points[np++] = a, points[np++] = b, points[np++] = c;
         else if (sscanf(line, "H,%d,%d,%d,%d", &a, &b, &c, &d) == 4 && nt + 4 <= 4 * COTTONTUFF_BENCH_TETS)
@@ -54,13 +58,11 @@ int main(int argc, char **argv) {
     stack = aligned_alloc(4096, STACK);
     size_t deepest = 0;
     const char *name = "";
-    for (int i = 1; i < argc; i++) {
-        FILE *f = fopen(argv[i], "rb");
-        if (!f) continue;
-        length = fread(text, 1, TEXT, f);
-        fclose(f);
-        text[length] = 0;
-        size_t d = depth_of(strstr(argv[i], ".mesh") ? replay : print);
+    int limited = argc > 2 && strcmp(argv[1], "-l") == 0;
+    if (limited) limit = (uint32_t)strtoul(argv[2], NULL, 10);
+    for (int i = limited ? 3 : 1; i < argc; i++) {
+        if (limited ? !read_job(argv[i]) : !(length = slurp(argv[i], text))) continue;
+        size_t d = depth_of(limited ? try_corners : strstr(argv[i], ".mesh") ? replay : print);
         if (d > deepest) deepest = d, name = argv[i];
     }
     printf("deepest: %zu bytes, %s\n", deepest, name);

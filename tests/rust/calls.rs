@@ -79,6 +79,17 @@ pub fn search(job: &Job, answer: &mut [u8]) -> [u32; 3] {
     [f.number, f.count, f.worst]
 }
 
+/// Number, spent, count, worst quality and trials.
+pub fn search_limited(job: &Job, limit: u32, answer: &mut [u8]) -> [u32; 5] {
+    let Job { points, triangles, kept, inner, table } = *job;
+    let (p, t, k, i, q) = (start(points), start(triangles), start(kept), start(inner), start(table));
+    let (np, nt, nk, ni, nq) = (points.len(), triangles.len(), kept.len(), inner.len(), table.len());
+    let (a, na) = (start(answer).cast_mut(), answer.len());
+    // SAFETY: each pointer and length are those of a list; the function writes to the answer alone, which no other list overlaps.
+    let l = unsafe { c::cottontuff_search_limited(p, np, t, nt, k, nk, i, ni, q, nq, limit, a, na) };
+    [l.number, l.spent, l.count, l.worst, l.trials]
+}
+
 pub fn measure(list: &[i32]) -> c::Measured {
     // SAFETY: the pointer and length are those of a list, which the function only reads.
     unsafe { c::cottontuff_measure(start(list), list.len()) }

@@ -7,6 +7,7 @@ mod check;
 mod empty;
 mod judge;
 mod large;
+mod limited;
 mod measure;
 mod program;
 mod search;
@@ -43,6 +44,7 @@ pub const GROUPS: &[Group] = &[
     judge::GROUP,
     search::GROUP,
     large::GROUP,
+    limited::GROUP,
     empty::GROUP,
     measure::GROUP,
     tables::GROUP,

@@ -7,3 +7,4 @@ pub mod measure;
 pub mod search;
 pub mod space;
 pub mod text;
+pub mod trials;

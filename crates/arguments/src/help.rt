@@ -8,7 +8,7 @@ fn print(text: &[u8]) {
 }
 
 pub fn print_version() {
-    print(b"cavity 1.3.0\n");
+    print(b"cavity 1.4.0\n");
 }
 
 pub fn print_help() {

@@ -8,6 +8,7 @@ ghost use Rattle.laws.specs.Check.{job-refusal};
 ghost use Rattle.laws.specs.Lists.{job-lists};
 ghost use Rattle.judge.specs.Judge.{Judge-says};
 ghost use Rattle.search.specs.Entry.{Search-says};
+ghost use Rattle.limited.specs.Entry.{Limit-says};
 ghost use Rattle.answer.specs.Answer.{Answered};
 ghost use Rattle.measuring.specs.Filling.{Fills};
 ghost use Rattle.bench.specs.Store.{fresh, loaded, opened-at, grown, closed, Replaces};
@@ -24,6 +25,8 @@ use bench::replace::replace;
 use checker::check::check_job;
 use judge::judge::Verdict;
 use judge::judge::judge;
+use limited::limited::Limited;
+use limited::limited::search_limited;
 use measured::Measured;
 use measured::measure_for_c;
 use measuring::fill::fill_table;
@@ -111,6 +114,22 @@ pub extern "C" fn cottontuff_search<'a, 'b>(
     ensures { λ r. ⌜ Search-says (job-lists (now (points .entry)) (now (triangles .entry)) (now (kept .entry)) [] (now (table .entry))) r (now (answer .entry)) (now (answer .exit)) ⌝ }
 {
     cottontuff_search_inner(points, triangles, kept, &[], table, answer)
+}
+
+// The best filling within a limit on trials, spent or not, its bytes at the start of the answer; or none, or a refusal, and the answer as it was.
+#[no_mangle]
+pub extern "C" fn cottontuff_search_limited<'a, 'b>(
+    points: &'a [i32],
+    triangles: &'b [u8],
+    kept: &'b [u8],
+    inner: &'b [u8],
+    table: &'a [i32],
+    limit: u32,
+    answer: &mut [u8],
+) -> Limited
+    ensures { λ r. ⌜ Limit-says (job-lists (now (points .entry)) (now (triangles .entry)) (now (kept .entry)) (now (inner .entry)) (now (table .entry))) limit r (now (answer .entry)) (now (answer .exit)) ⌝ }
+{
+    search_limited(points, triangles, kept, inner, table, limit, answer)
 }
 
 // The measure of a tetrahedron by its twelve coordinates: D, S, the shape number and its millionths; or 3, then 16.

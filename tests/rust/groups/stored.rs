@@ -1,5 +1,6 @@
 //! Stored answers, where a folder of them is given: NAME.txt with NAME.out, judge/cases.txt, measure/cases.txt; in a folder slip-NN judge.txt,
-//! judge-lists.txt and lists.txt. Library and reference both answer them, the reference where it ends soon.
+//! judge-lists.txt, lists.txt and trials.txt. Library and reference both answer them, the reference where it ends soon.
+use super::limited;
 use super::search::{expected as answered, safely};
 use super::{Group, Part};
 use crate::jobs::Made;
@@ -19,6 +20,8 @@ fn wanted(part: &Part) -> (Vec<String>, u64) {
 }
 
 const STEPS: u64 = 1_000;
+/// The reference is asked for answers of no more trials.
+const TRIALS: u32 = 2_000;
 
 /// The files below a folder, in the order of their names; folders slip-NN in it are left out, since the form in force there may be another.
 pub fn files(folder: &Path) -> Vec<PathBuf> {
@@ -74,15 +77,50 @@ fn judged(tally: &mut Tally, job: &Job, lists: &Lists, case: &[String], list: &s
     tally.compare("judged by the reference".to_string(), result, &listed, || case.join(";"));
 }
 
+/// The lists of a job's text, and the same with bytes.
+fn stored_job(folder: &Path, name: &str) -> (Lists, Made) {
+    let text = fs::read(folder.join(format!("{name}.txt"))).unwrap_or_default();
+    let lists = read(&text).unwrap_or_default();
+    let bytes = |numbers: &[usize]| numbers.iter().map(|n| *n as u8).collect::<Vec<u8>>();
+    let [triangles, kept, inner] = [&lists.triangles, &lists.kept, &lists.inner].map(|numbers| bytes(numbers));
+    let (points, table) = (lists.points.clone(), lists.table.clone());
+    (lists, Made { points, triangles, kept, inner, table, filling: Vec::new() })
+}
+
 /// Lines JOB;LIST;RESULT.
 fn judge_cases(tally: &mut Tally, lines: PathBuf, jobs: &Path) {
     for case in cases(lines) {
-        let text = fs::read(jobs.join(format!("{}.txt", case[0]))).unwrap_or_default();
-        let lists = read(&text).unwrap_or_default();
-        let bytes = |numbers: &[usize]| numbers.iter().map(|n| *n as u8).collect::<Vec<u8>>();
-        let (triangles, kept, inner) = (bytes(&lists.triangles), bytes(&lists.kept), bytes(&lists.inner));
-        let job = Job { points: &lists.points, triangles: &triangles, kept: &kept, inner: &inner, table: &lists.table };
-        judged(tally, &job, &lists, &case, &case[1], &case[2]);
+        let (lists, made) = stored_job(jobs, &case[0]);
+        judged(tally, &made.job(), &lists, &case, &case[1], &case[2]);
+    }
+}
+
+/// KIND,TRIALS,COUNT,WORST and the list: F a filling, R none exists, S spent, Rn refused with n.
+fn limited_answer(fields: &str, list: &str) -> limited::Answer {
+    let (kind, rest) = fields.split_once(',').unwrap_or_default();
+    let numbers: Vec<u32> = decimals(rest);
+    let number = match kind {
+        "F" | "S" => 0,
+        "R" => 15,
+        _ => kind[1..].parse().unwrap_or(0),
+    };
+    let mut buffer: Vec<u8> = decimals(&list.replace(' ', ","));
+    buffer.resize(7280, 0);
+    ([number, u32::from(kind == "S"), numbers[1], numbers[2], numbers[0]], buffer)
+}
+
+/// Lines JOB;LIMIT;KIND,TRIALS,COUNT,WORST;LIST: a limit, and what the limited search answers.
+fn trial_cases(tally: &mut Tally, part: &Part, folder: &Path) {
+    for case in cases(folder.join("trials.txt")).iter().skip(part.number as usize).step_by(part.of as usize) {
+        let (lists, made) = stored_job(folder, &case[0]);
+        let limit: u32 = case[1].parse().unwrap_or(0);
+        let expected = limited_answer(&case[2], &case[3]);
+        let got = cottontuff::search_limited(&made.job(), limit);
+        tally.compare("limited".to_string(), &limited::safely(&expected), &got, || case.join(";"));
+        if expected.0[4] <= TRIALS {
+            let got = limited::expected(&job::check(&lists), limit, vec![0; 7280]);
+            tally.compare("limited, by the reference".to_string(), &expected, &got, || case.join(";"));
+        }
     }
 }
 
@@ -163,6 +201,7 @@ fn run(part: &Part) -> Tally {
     let mut tally = Tally::default();
     for folder in &part.folders {
         printouts(&mut tally, part, folder);
+        trial_cases(&mut tally, part, folder);
         if part.number == 0 {
             judge_cases(&mut tally, folder.join("judge/cases.txt"), &folder.join("small"));
             judge_cases(&mut tally, folder.join("judge.txt"), folder);

@@ -7,7 +7,7 @@ use std::collections::{BTreeMap, BTreeSet};
 pub type Best = Option<(i32, Vec<Four>)>;
 
 /// The greater worst quality; among equals, the list that comes first.
-fn better(best: Best, worst: i32, list: Vec<Four>) -> Best {
+pub(super) fn better(best: Best, worst: i32, list: Vec<Four>) -> Best {
     match best {
         Some((w, l)) if w > worst || (w == worst && l <= list) => Some((w, l)),
         _ => Some((worst, list)),
