@@ -139,19 +139,8 @@ pub(crate) fn face(
     for p in 0..n {
         let f = four_on(t.a, t.b, t.c, p);
         if is_trial(lists, ints, rows, worths, t, f, g, own, set, depth) {
-            g = corner(
-                lists,
-                ints,
-                rows,
-                worths,
-                f,
-                left - 1,
-                g,
-                own,
-                set,
-                depth,
-                best,
-            );
+            let rest = left - 1;
+            g = corner(lists, ints, rows, worths, f, rest, g, own, set, depth, best);
             if g.spent {
                 return g;
             }

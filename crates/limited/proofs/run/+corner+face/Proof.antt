@@ -10,7 +10,7 @@ use Rattle.limited.proofs.run.+corner+face.{statement}
 use Rattle.limited.proofs.run.+corner+face.Tie.{close}
 use Rattle.limited.proofs.run.+corner+face.Proof.Cycle.{μ-corner, μ-face, corner-at, face-at, corner-claims, face-claims, face-Inv-loop, face-μ-loop}
 use Rattle.limited.proofs.run.+corner+face.Proof.Corner.{corner-stopped-requires, corner-returns, corner-oriented-requires, corner-raise-faces-requires, corner-push-requires, corner-counted-requires, corner-add-face, corner-face-requires, corner-lower-faces-requires, corner-returns-2}
-use Rattle.limited.proofs.run.+corner+face.Proof.Face.{face-element-copy-out-points, face-element-copy-out-lowest-open, face-lowest-open-requires, face-offer-requires, face-returns, face-returns-2, face-loop-holds, face-four-on-requires, face-is-trial-requires, face-sub-corner, face-corner-requires, face-returns-3, face-add-p, face-loop-less, face-loop-again, face-returns-4}
+use Rattle.limited.proofs.run.+corner+face.Proof.Face.{face-element-copy-out-points, face-element-copy-out-lowest-open, face-lowest-open-requires, face-offer-requires, face-returns, face-returns-2, face-loop-holds, face-four-on-requires, face-is-trial-requires, face-sub-rest, face-corner-requires, face-returns-3, face-add-p, face-loop-less, face-loop-again, face-returns-4}
 
 pub +corner+face-spec : {M : Type 1} → statement M
 +corner+face-spec =
@@ -42,7 +42,7 @@ pub +corner+face-spec : {M : Type 1} → statement M
     (face-loop-holds t)
     (face-four-on-requires t)
     (face-is-trial-requires t)
-    (face-sub-corner t)
+    (face-sub-rest t)
     (face-corner-requires t)
     (face-returns-3 t)
     (face-add-p t)

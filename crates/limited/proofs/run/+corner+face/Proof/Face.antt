@@ -122,8 +122,8 @@ face-is-trial-requires t c κs =
     let r = k .lowest-open .result in
     (h .0 .surveyed .accepted, h .0 .surveyed .signs, h .0 .graded, still-stands t l, rw (f .four-on .ensures) (four-on-weakly-ordered (tri (r .a) (r .b) (r .c)) (l .loop .p) (omega (arith, w .a)) (omega (arith, w .b)) (omega (arith, w .c)) (corner-below-count t (f .before))))
 
-pub face-sub-corner : (t : ℕ) → face-lts.Need-sub-corner (face-claims t) (face-at t) face.Post face-Inv-loop face-μ-loop
-face-sub-corner t c = omega (arith, looping t (c .before) .before .if2 .left)
+pub face-sub-rest : (t : ℕ) → face-lts.Need-sub-rest (face-claims t) (face-at t) face.Post face-Inv-loop face-μ-loop
+face-sub-rest t c = omega (arith, looping t (c .before) .before .if2 .left)
 
 pub face-corner-requires : (t : ℕ) → face-lts.Need-corner-requires (face-claims t) (face-at t) face.Post face-Inv-loop face-μ-loop
 face-corner-requires t c κs =
