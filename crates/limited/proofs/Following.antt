@@ -10,15 +10,18 @@ use Rattle.geometry.specs.Space.{V3}
 use Rattle.geometry.specs.declared.tetrahedron.Four.{Four}
 use Rattle.laws.specs.Laws.{Job, choose, all-faces}
 use Rattle.laws.specs.inner.FaceFlags.{flag-all}
-use Rattle.trials.specs.Trials.{completed, better, trials, trials-from}
+use Rattle.laws.specs.inner.Ranges.{first-over}
+use Rattle.laws.specs.inner.Sorting.{sort}
+use Rattle.trials.specs.Trials.{lowest-open, completed, better, trials, trials-from}
 use Rattle.trials.specs.Limit.{Run}
 use Rattle.trials.proofs.Runs.{run-all}
 use Rattle.offers.specs.declared.best.Log.{Log}
 use Rattle.settable.specs.Bytes.{stack}
-use Rattle.offers.specs.Offered.{best-in, Known}
+use Rattle.offers.specs.Offered.{best-in, Known, Offered}
 use Rattle.settable.specs.Standing.{Standing}
 use Rattle.limited.specs.inner.Ran.{Going, Ran, best-with}
 use Rattle.limited.specs.inner.Followed.{begun-log, Followed}
+use Rattle.limited.proofs.AtFace.{face-closed}
 
 pub nothing-stands : (ps : List V3) {own set : List ℕ} → own ≡ replicate 4096 0 → length set ≡ 4096 → Standing ps own set 0
 unfolding stack all-faces flag-all
@@ -48,3 +51,15 @@ followed-whole j limit left best {g} {r} {own} {set} {own1} {set1} {best1} e n x
     let z = subst (λ (b : Option (List Four)). Run j limit 0 b (trials-from left j [] b) (r .trials) (r .spent) (best-in r best1)) (begun-best j limit best) y in
     let w = run-all (subst (λ (k : ℕ). Run j limit 0 (completed j []) (trials-from k j [] (completed j [])) (r .trials) (r .spent) (best-in r best1)) n z) in
     record { trials = w .0; spent-or-not = w .1 .0; best-found = w .1 .1; known = x .known }
+
+-- without points no face is open
+none-open : (j : Job) → length (j .points) ≡ 0 → lowest-open j [] ≡ none
+unfolding lowest-open first-over
+none-open j e = rw e refl
+
+-- a job without points: nothing is tried, and the empty list is offered
+pub followed-none :
+    (j : Job) (limit : ℕ) (best set : List ℕ) {g r : Log} {best1 : List ℕ} → Going j g best → g ≡ begun-log limit → length (j .points) ≡ 0 → Offered j (sort (stack 0 set)) g best r best1 → Followed j limit r best1
+unfolding stack
+followed-none j limit best set o e n x =
+    followed-whole j limit (suc (choose (length (j .points)) 4)) best {own = []} {set = set} e refl (face-closed j [] {own = []} {set = set} {depth = 0} o (suc (choose (length (j .points)) 4)) (none-open j n) x)

@@ -4,6 +4,7 @@ use checker::check::check_job;
 use fours::flags::raise_boundary;
 use offers::best::Log;
 use offers::offer::copy;
+use offers::offer::offer;
 use settable::lent::FLAGS;
 use settable::set::ROOM;
 use settable::worth::fill_worths;
@@ -59,7 +60,7 @@ fn begun(limit: u32) -> Log
     }
 }
 
-// Follows the rule of trials for an accepted job; the best filling is left in its buffer.
+// Follows the rule of trials for an accepted job; the best filling is left in its buffer. The empty job has nothing to try: the empty list is offered at once.
 pub(crate) fn follow(
     lists: &[&[u8]; 4],
     ints: &[&[i32]; 2],
@@ -70,6 +71,11 @@ pub(crate) fn follow(
     ensures { λ r. ⌜ Followed (job (lent-job (now (lists .entry)) (now (ints .entry)))) limit r (now (best .exit)) ⌝ }
 {
     let points = ints[POINTS];
+    let mut set = [0u8; ROOM];
+    let log = begun(limit);
+    if points.len() == 0 {
+        return offer(lists, ints, &set, 0, log, best);
+    }
     let table = ints[TABLE];
     let flags = lists[FLAGS];
     let mut rows = [0u16; 4096];
@@ -77,9 +83,7 @@ pub(crate) fn follow(
     let mut worths = [0u32; 1820];
     fill_worths(table, points.len() / 3, &rows, flags, &mut worths);
     let mut own = [0u8; ROOM];
-    let mut set = [0u8; ROOM];
     let left = table.len() + 1;
-    let log = begun(limit);
     face(
         lists,
         ints,
