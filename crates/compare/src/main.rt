@@ -1,8 +1,10 @@
-// Compares the search, the judge and the checker with a plain enumerator and with the laws written anew: on the cavities of document 01 that are not proved as a
-// table, at the limit of the inner triangles, on the empty job, and on random jobs. How many jobs: the number on the one line of standard input, 3,600 where that is empty. Prints
-// how many there were of each kind, and how many comparisons differ. An argument, or an input that is no number, is refused on standard error. Assumes nothing; any bytes may come.
+// Compares the search, the judge, the checker and the limited search with a plain enumerator and with the laws and the rule of trials written anew: on the cavities of
+// document 01 that are not proved as a table, at the limit of the inner triangles, on the empty job, and on random jobs. How many jobs: the number on the one line of standard
+// input, 3,600 where that is empty. Prints how many there were of each kind, and how many comparisons differ. An argument, or an input that is no number, is refused on
+// standard error. Assumes nothing; any bytes may come.
 mod limits;
 mod trial;
+mod under_limits;
 
 use comparison::tally::print_tally;
 use enumerator::enumerate::ROOM;
@@ -26,6 +28,7 @@ use random_jobs::kept::put_kept;
 use random_jobs::points::put_points;
 use random_jobs::table::put_table;
 use trial::trial;
+use under_limits::under_limits;
 
 const JOBS: u64 = 3_600;
 
@@ -44,7 +47,8 @@ fn with_job(seed: u64, tally: Counts) -> Counts {
     let mut g = [0u8; 1686];
     let hurt = inner_damage(seed, d);
     let inner = put_inner(seed, hurt, points.len() / 3, chosen, triangles, &mut g);
-    trial(seed, points, triangles, kept, inner, table, chosen, tally)
+    let t = trial(seed, points, triangles, kept, inner, table, chosen, tally);
+    under_limits(seed, points, triangles, kept, inner, table, t)
 }
 
 fn with_jobs(jobs: u64, tally: Counts) -> Counts {

@@ -44,9 +44,18 @@ pub const LAWS: usize = 27;
 // Lists judged of refused jobs.
 pub const REFUSED: usize = 36;
 
-const COMPARED: usize = 37;
+// Answers of the limited search: all, those that the limit stopped, by whether a filling was found, and the others.
+const LIMITED: usize = 37;
 
-const DIFFERENT: usize = 38;
+const SPENT_FILLED: usize = 38;
+
+const SPENT_UNFILLED: usize = 39;
+
+const UNSPENT: usize = 40;
+
+const COMPARED: usize = 41;
+
+const DIFFERENT: usize = 42;
 
 // The most differences that are named.
 const NAMED: u64 = 10;
@@ -81,6 +90,21 @@ pub fn with_answer(tally: Counts, number: u32, agrees: bool, seed: u64) -> Count
 pub fn with_skipped(tally: Counts) -> Counts {
     let t = tally.more(JOBS);
     t.more(SKIPPED)
+}
+
+// One more answer of the limited search.
+pub fn with_limited(
+    tally: Counts,
+    is_spent: bool,
+    is_found: bool,
+    agrees: bool,
+    seed: u64,
+) -> Counts {
+    let t = tally.more(LIMITED);
+    let a = t.more_if(is_spent & is_found, SPENT_FILLED);
+    let b = a.more_if(is_spent & !is_found, SPENT_UNFILLED);
+    let all = b.more_if(!is_spent, UNSPENT);
+    with_comparison(all, agrees, seed, b"limited search: job ")
 }
 
 // Whether some point is no corner of the boundary: the corners are gathered as bits.
@@ -124,7 +148,7 @@ pub fn print_tally(tally: Counts) {
         answered 12\n; answered 13\n; answered 14\n; answered 15\n; answered 22\n; answered 23\n; filled\n; with several lawful fillings\n; with several of the best worst quality\n; \
         filled with a point off the boundary\n; filled with kept edges\n; filled with inner triangles\n; filled in several components, of a tetrahedron each\n; filled around a void\n; \
         answered 15 with inner triangles\n; skipped\n; lists judged lawful\n; lists judged to break law 1\n; lists judged to break law 2\n; lists judged to break law 3\n; lists judged to break \
-        law 4\n; lists judged to break law 5\n; lists judged to break law 6\n; lists judged to break law 7\n; lists judged to break law 8\n; lists judged of refused jobs\n; compared, ; \
-        different\n;",
+        law 4\n; lists judged to break law 5\n; lists judged to break law 6\n; lists judged to break law 7\n; lists judged to break law 8\n; lists judged of refused jobs\n; limited \
+        answers\n; spent with a filling\n; spent without one\n; unspent\n; compared, ; different\n;",
     );
 }

@@ -25,7 +25,7 @@ use std::num::wrapping_add_usize as plus;
 pub const FACES: usize = 768;
 
 // The entry of f; an unmeasured one as 0.
-fn entry(points: &[i32], table: &[i32], f: Four) -> u32 {
+pub fn entry(points: &[i32], table: &[i32], f: Four) -> u32 {
     let v = number_at(table, place_of(points.len() / 3, f), 0);
     if v < 0 { 0 } else { v as u32 }
 }
@@ -36,7 +36,7 @@ pub fn has_quality(points: &[i32], table: &[i32], f: Four) -> bool {
 }
 
 // Law 3: no point strictly inside.
-fn holds_a_point(points: &[i32], f: Four) -> bool {
+pub fn holds_a_point(points: &[i32], f: Four) -> bool {
     for p in 0..points.len() / 3 {
         if inside(points, f, p) == YES {
             return true;

@@ -1,20 +1,17 @@
 -- The run at a face: where nothing is open, where nothing is left, and over its corners. Assumes nothing.
 use mathlib.Core.Path.{_≡_, refl, sym, subst, ap, _∙_}
-use mathlib.Core.Bool.{Bool, true, false, cond}
+use mathlib.Core.Bool.{Bool, false}
 use mathlib.Core.List.{List, []}
 use mathlib.Core.Option.{Option, none, some}
-use Prim.Native.Nat.{ℕ, suc, _-_, _≤_, _<_}
-use native.Mathlib.Omega.{arith}
-use lib.ListN.{length}
+use Prim.Native.Nat.{ℕ, suc, _-_}
 use Rattle.geometry.specs.declared.tetrahedron.Four.{Four}
-use Rattle.laws.specs.Laws.{Job, Tri, lawful}
+use Rattle.laws.specs.Laws.{Job, Tri}
 use Rattle.laws.specs.inner.Sorting.{sort}
-use Rattle.laws.specs.inner.ListedFours.{four-at}
-use Rattle.trials.specs.Trials.{lowest-open, completed, better, Trials, trials-from}
+use Rattle.trials.specs.Trials.{lowest-open, better, Trials, trials-from}
 use Rattle.trials.specs.Limit.{Run}
 use Rattle.trials.proofs.Runs.{run-none}
 use Rattle.offers.specs.declared.best.Log.{Log}
-use Rattle.offers.specs.Offered.{best-in, Known, Offered}
+use Rattle.offers.specs.Offered.{best-in, Offered}
 use Rattle.limited.specs.inner.Ran.{Going, Ran, best-with, from-corner}
 use Rattle.limited.proofs.Running.{closed-completes, closed-ends, open-completes-none, none-left, open-goes-on, better-none}
 

@@ -1,9 +1,9 @@
 -- A run from its beginning: nothing set, nothing found. Assumes nothing.
-use mathlib.Core.Path.{_≡_, refl, sym, subst, ap, _∙_}
+use mathlib.Core.Path.{_≡_, refl, sym, subst}
 use mathlib.Core.Bool.{true≢false}
 use mathlib.Core.List.{List, []}
 use mathlib.Core.Option.{Option, none, some}
-use Prim.Native.Nat.{ℕ, suc, _<_}
+use Prim.Native.Nat.{ℕ, suc}
 use native.Mathlib.Omega.{arith}
 use lib.ListN.{length, replicate}
 use Rattle.geometry.specs.Space.{V3}
@@ -17,7 +17,7 @@ use Rattle.trials.specs.Limit.{Run}
 use Rattle.trials.proofs.Runs.{run-all}
 use Rattle.offers.specs.declared.best.Log.{Log}
 use Rattle.settable.specs.Bytes.{stack}
-use Rattle.offers.specs.Offered.{best-in, Known, Offered}
+use Rattle.offers.specs.Offered.{best-in, Offered}
 use Rattle.settable.specs.Standing.{Standing}
 use Rattle.limited.specs.inner.Ran.{Going, Ran, best-with}
 use Rattle.limited.specs.inner.Followed.{begun-log, Followed}

@@ -1,7 +1,7 @@
 -- The loop of a face over its corners: whatever run the rest has, the whole has it. Assumes nothing.
-use mathlib.Core.Path.{_≡_, refl, sym, subst, ap, _∙_}
+use mathlib.Core.Path.{_≡_, refl, sym, subst, _∙_}
 use mathlib.Core.Bool.{Bool, true, false, _&&_}
-use mathlib.Core.List.{List, [], _∷_, _++_}
+use mathlib.Core.List.{List, _++_}
 use mathlib.Core.Option.{Option}
 use Prim.Native.Nat.{ℕ, _+_, _-_, _≤_, _<_}
 use native.Mathlib.Omega.{arith}
@@ -9,11 +9,11 @@ use lib.ListN.{length}
 use Rattle.geometry.specs.declared.tetrahedron.Four.{Four}
 use Rattle.laws.specs.Laws.{Job, Tri}
 use Rattle.laws.specs.inner.ListedFours.{four-at}
-use Rattle.trials.specs.Trials.{can-be-set, good-enough, four-on, completed, better, best-of, Trials, trials-from}
+use Rattle.trials.specs.Trials.{can-be-set, good-enough, four-on, best-of, Trials, trials-from}
 use Rattle.trials.specs.Limit.{Run}
 use Rattle.trials.proofs.Runs.{run-none, run-on, run-stopped, run-most}
 use Rattle.offers.specs.declared.best.Log.{Log}
-use Rattle.offers.specs.Offered.{best-in, Known}
+use Rattle.offers.specs.Offered.{best-in}
 use Rattle.limited.specs.inner.Ran.{Going, Ran, from-corner, with-corner}
 use Rattle.limited.proofs.Running.{run-best, corner-passed, corner-tried, corners-done}
 

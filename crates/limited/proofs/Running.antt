@@ -1,6 +1,6 @@
 -- Runs of trials as the functions put them together: a corner from what is tried below it, a face from its corners. Assumes nothing.
-use mathlib.Core.Path.{_≡_, refl, sym, subst, ap, _∙_}
-use mathlib.Core.Bool.{Bool, true, false, _&&_, cond}
+use mathlib.Core.Path.{_≡_, refl, ap}
+use mathlib.Core.Bool.{true, false, _&&_, cond}
 use mathlib.Core.List.{List, [], _∷_, _++_}
 use mathlib.Core.Option.{Option, none, some}
 use Prim.Native.Nat.{ℕ, zero, suc, _+_, _-_, _≤_, _<_}
@@ -11,8 +11,7 @@ use Rattle.laws.specs.Laws.{Job, Tri, lawful}
 use Rattle.laws.specs.Fours.{from}
 use Rattle.laws.specs.inner.Sorting.{sort}
 use Rattle.trials.specs.Trials.{lowest-open, four-on, can-be-set, good-enough, completed-by, completed, better, best-of, Trials, at-face, at-lowest, trials-from}
-use Rattle.trials.specs.Limit.{Run, ended, stopped}
-use Rattle.trials.proofs.Runs.{run-none, run-one, run-on, run-stopped, run-over, run-most}
+use Rattle.trials.specs.Limit.{Run, ended}
 
 -- an unspent run has found the best of all its trials
 pub run-best : {j : Job} {limit n m : ℕ} {b c : Option (List Four)} {more : Trials} → Run j limit n b more m false c → c ≡ best-of j b more

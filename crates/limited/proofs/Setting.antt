@@ -1,8 +1,6 @@
 -- A four set on top of the others and taken back, and the run of a corner. Assumes nothing.
 use mathlib.Core.Path.{_≡_, refl, sym, subst, ap, _∙_}
-use mathlib.Core.Bool.{Bool, true, false}
-use mathlib.Core.List.{List, [], _∷_, _++_}
-use mathlib.Core.Option.{Option}
+use mathlib.Core.List.{List, _∷_}
 use Prim.Native.Nat.{ℕ, suc, _+_, _-_, _*_, _≤_, _<_}
 use native.Mathlib.Omega.{arith}
 use lib.ListN.{length, replicate}
@@ -16,15 +14,15 @@ use Rattle.laws.specs.inner.NextFour.{Ordered}
 use Rattle.laws.proofs.Basics.Lists.{each-of-members}
 use Rattle.laws.proofs.Faces.FlagLoops.{flag-append}
 use Rattle.fillings.specs.Filing.{put-four}
-use Rattle.trials.specs.Trials.{completed, better, Trials, trials-from}
+use Rattle.trials.specs.Trials.{completed, trials-from}
 use Rattle.trials.specs.Limit.{Run}
 use Rattle.trials.proofs.Runs.{run-one, run-on, run-over}
 use Rattle.offers.specs.declared.best.Log.{Log}
 use Rattle.settable.specs.Bytes.{stack}
 use Rattle.settable.specs.Flagged.{lower-all}
-use Rattle.offers.specs.Offered.{best-in, Known}
+use Rattle.offers.specs.Offered.{best-in, counted-log, stopped-log}
 use Rattle.settable.specs.Standing.{Solids, Standing}
-use Rattle.limited.specs.inner.Ran.{Going, Free, Ran, best-with, with-corner, counted-log, stopped-log}
+use Rattle.limited.specs.inner.Ran.{Going, Free, Ran, best-with, with-corner}
 use Rattle.settable.proofs.Stacks.{stack-same, pushed-below, pushed-stack, pushed-long, stack-member}
 use Rattle.settable.proofs.SetFours.{few-set, solids-pushed, solids-same}
 use Rattle.settable.proofs.Lowering.{owned-and-back}
@@ -63,7 +61,7 @@ module _ (j : Job) {own set : List ℕ} {depth : ℕ} (few : length (j .points) 
     top : stack (depth + 1) pushed ≡ f ∷ stack depth set
     top = let e : depth + 1 ≡ suc depth = omega arith in rw e (pushed-stack depth set f has-room)
 
-    pub standing-pushed : Standing (j .points) raised pushed (depth + 1)
+    standing-pushed : Standing (j .points) raised pushed (depth + 1)
     unfolding all-faces
     standing-pushed =
         record {
@@ -73,7 +71,7 @@ module _ (j : Job) {own set : List ℕ} {depth : ℕ} (few : length (j .points) 
         }
 
     -- the run of a corner: one trial, and those below it
-    pub corner-ran :
+    corner-ran :
         (left : ℕ) {g r : Log} {best own2 set2 best2 own3 : List ℕ} → Going j g best → g .trials < g .limit →
         Ran j (counted-log g) (best-with j (stack (depth + 1) pushed) (counted-log g) best) (trials-from left j (stack (depth + 1) pushed) (best-with j (stack (depth + 1) pushed) (counted-log g) best)) raised pushed (depth + 1) r own2 set2 best2 →
         own3 ≡ lower-all (faces (turned (j .points) f)) own2 → Ran j g (best-in g best) (with-corner j left (stack depth set) f g best) own set depth r own3 set2 best2

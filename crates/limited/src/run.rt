@@ -3,7 +3,9 @@ use checker::table::place;
 use fours::flags::raise_faces;
 use geometry::tetrahedron::Four;
 use offers::best::Log;
+use offers::best::counted;
 use offers::best::is_good_enough;
+use offers::best::stopped;
 use offers::offer::offer;
 use settable::corner::four_on;
 use settable::corner::has_face;
@@ -33,7 +35,7 @@ ghost use Rattle.settable.specs.Bytes.{stack};
 ghost use Rattle.settable.specs.Standing.{Weakly-ordered, Standing};
 ghost use Rattle.settable.specs.Worth.{worth, Worths};
 ghost use Rattle.offers.specs.Offered.{best-in, Known};
-ghost use Rattle.limited.specs.inner.Ran.{Readied, Going, Free, Ran, best-with, with-corner, counted-log, stopped-log};
+ghost use Rattle.limited.specs.inner.Ran.{Readied, Going, Free, Ran, best-with, with-corner};
 
 // The worth of f by its place; 0 where its numbers do not increase.
 fn worth_at(worths: &[u32; 1820], n: usize, f: Four) -> u32
@@ -79,35 +81,6 @@ fn is_trial(
         return false;
     }
     is_apart_from(points, rows, set, depth, f)
-}
-
-// One trial more.
-fn counted(log: Log) -> Log
-    requires { ⌜ log .trials < log .limit ⌝ }
-    ensures { λ r. ⌜ r ≡ counted-log log ⌝ }
-{
-    Log {
-        limit: log.limit,
-        trials: log.trials + 1,
-        spent: false,
-        found: log.found,
-        count: log.count,
-        worst: log.worst,
-    }
-}
-
-// The limit is met.
-fn stopped(log: Log) -> Log
-    ensures { λ r. ⌜ r ≡ stopped-log log ⌝ }
-{
-    Log {
-        limit: log.limit,
-        trials: log.trials,
-        spent: true,
-        found: log.found,
-        count: log.count,
-        worst: log.worst,
-    }
 }
 
 // Goes over the corners at the lowest open face, or offers what is set where none is open.

@@ -29,7 +29,7 @@ bytes-of-fours (suc m) (a ∷ b ∷ c ∷ d ∷ xs) h =
     let e : suc m * 4 ≡ suc (suc (suc (suc (m * 4)))) = omega arith in rw (e, bytes-of-fours m xs (omega arith))
 
 module _ (m : ℕ) (xs : List ℕ) (h : m * 4 ≤ length xs) where
-  pub fours-of-front : (ys : List ℕ) → fours-in m (take (m * 4) xs ++ ys) ≡ fours-in m xs
+  fours-of-front : (ys : List ℕ) → fours-in m (take (m * 4) xs ++ ys) ≡ fours-in m xs
   fours-of-front ys =
       let e = fours-in-front (fours-in m xs) ys in rw (fours-in-length m xs, bytes-of-fours m xs h) at e
 
@@ -64,7 +64,7 @@ copied-more i xs ys h l =
 abbrev pub fours-after : (m : ℕ) (xs : List ℕ) → (i : ℕ) → List Four
 fours-after m xs i = fours-in (m - i) (drop (i * 4) xs)
 
-pub fours-after-next : (m : ℕ) (xs : List ℕ) (i : ℕ) → i < m → fours-after m xs i ≡ four-at xs i ∷ fours-after m xs (i + 1)
+fours-after-next : (m : ℕ) (xs : List ℕ) (i : ℕ) → i < m → fours-after m xs i ≡ four-at xs i ∷ fours-after m xs (i + 1)
 unfolding fours-in
 fours-after-next m xs i h =
     let d : m - i ≡ suc (m - (i + 1)) = omega arith in
@@ -72,7 +72,7 @@ fours-after-next m xs i h =
     let z : i * 4 + 0 ≡ i * 4 = omega arith in
     rw (d, getD-drop (i * 4) xs 0 0, getD-drop (i * 4) xs 1 0, getD-drop (i * 4) xs 2 0, getD-drop (i * 4) xs 3 0, drop-drop 4 (i * 4) xs, e, z)
 
-pub no-fours-after : (m : ℕ) (xs : List ℕ) (i : ℕ) → m ≤ i → fours-after m xs i ≡ []
+no-fours-after : (m : ℕ) (xs : List ℕ) (i : ℕ) → m ≤ i → fours-after m xs i ≡ []
 unfolding fours-in
 no-fours-after m xs i h = let d : m - i ≡ 0 = omega arith in rw d
 

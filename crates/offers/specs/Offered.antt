@@ -1,9 +1,9 @@
 -- The best filling so far, as a run holds it, and what becomes of it when a closed list is offered. Assumes nothing: these are definitions.
 use mathlib.Core.Path.{_≡_}
-use mathlib.Core.Bool.{Bool, true, cond}
+use mathlib.Core.Bool.{Bool, true, false, cond}
 use mathlib.Core.List.{List, _++_}
 use mathlib.Core.Option.{Option, none, some}
-use Prim.Native.Nat.{ℕ, _≤_}
+use Prim.Native.Nat.{ℕ, _+_, _≤_}
 use lib.ListN.{length, take, drop}
 use Rattle.geometry.specs.declared.tetrahedron.Four.{Four}
 use Rattle.laws.specs.Laws.{Job, lawful, worst, fours-in}
@@ -19,6 +19,13 @@ pub record Known (j : Job) (g : Log) (best : List ℕ) : Type 0 where
   pub long : length best ≡ 4096
   pub few : g .count ≤ 1024
   pub worth : g .found ≡ true → g .worst ≡ worst j (fours-in (g .count) best)
+
+-- the log with one trial more, and the log where the limit is met
+abbrev pub counted-log : Log → Log
+counted-log g = record { limit = g .limit; trials = g .trials + 1; spent = false; found = g .found; count = g .count; worst = g .worst }
+
+abbrev pub stopped-log : Log → Log
+stopped-log g = record { limit = g .limit; trials = g .trials; spent = true; found = g .found; count = g .count; worst = g .worst }
 
 -- a list in the place of the best one
 unfoldable pub improves-best : Job → Option (List Four) → List Four → Bool

@@ -4,12 +4,12 @@ use fours::list::is_before;
 use settable::set::ROOM;
 ghost use mathlib.Core.Path.{_≡_};
 ghost use mathlib.Core.List.{List};
-ghost use Prim.Native.Nat.{ℕ, _≤_};
+ghost use Prim.Native.Nat.{ℕ, _≤_, _<_};
 ghost use lib.ListN.{length};
 ghost use Rattle.geometry.specs.declared.tetrahedron.Four.{Four};
 ghost use Rattle.laws.specs.Laws.{Job, entry, quality, fours-in, list-before, worst};
 ghost use Rattle.trials.specs.Trials.{good-enough};
-ghost use Rattle.offers.specs.Offered.{best-in, Known, improves-best};
+ghost use Rattle.offers.specs.Offered.{best-in, Known, counted-log, stopped-log, improves-best};
 
 // A run so far: its limit, the trials made, whether the limit has stopped it, and the best filling's count and worst quality. Its list stands in a buffer beside it.
 pub struct Log {
@@ -19,6 +19,35 @@ pub struct Log {
     pub found: bool,
     pub count: usize,
     pub worst: u32,
+}
+
+// One trial more.
+pub fn counted(log: Log) -> Log
+    requires { ⌜ log .trials < log .limit ⌝ }
+    ensures { λ r. ⌜ r ≡ counted-log log ⌝ }
+{
+    Log {
+        limit: log.limit,
+        trials: log.trials + 1,
+        spent: false,
+        found: log.found,
+        count: log.count,
+        worst: log.worst,
+    }
+}
+
+// The limit is met.
+pub fn stopped(log: Log) -> Log
+    ensures { λ r. ⌜ r ≡ stopped-log log ⌝ }
+{
+    Log {
+        limit: log.limit,
+        trials: log.trials,
+        spent: true,
+        found: log.found,
+        count: log.count,
+        worst: log.worst,
+    }
 }
 
 // Whether a four of this quality is not below the worst of the best filling.

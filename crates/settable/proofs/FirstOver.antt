@@ -18,12 +18,12 @@ first-over-same (suc n) i f g h =
     let e = h i (omega arith) (omega arith) in
     let r = first-over-same n (suc i) f g (λ k l u. h k (omega arith) (omega arith)) in rw (e, r) refl
 
-pub first-over-step :
+first-over-step :
     {A : Type 0} (n i : ℕ) (f : ℕ → Option A) → i < n → first-over (n - i) i f ≡ first-of (f i) (first-over (n - (i + 1)) (i + 1) f)
 unfolding first-over
 first-over-step n i f h = let d : n - i ≡ suc (n - (i + 1)) = omega arith in rw (d, add-one i) refl
 
-pub first-over-end : {A : Type 0} (n i : ℕ) (f : ℕ → Option A) → n ≤ i → first-over (n - i) i f ≡ none
+first-over-end : {A : Type 0} (n i : ℕ) (f : ℕ → Option A) → n ≤ i → first-over (n - i) i f ≡ none
 unfolding first-over
 first-over-end n i f h = let d : n - i ≡ 0 = omega arith in rw d refl
 

@@ -38,7 +38,7 @@ raised-and-lowered fl t h =
     set-set fl (face-code t) 1 0 ∙ ap (set fl (face-code t)) (sym (down fl t h)) ∙ set-getD fl (face-code t) 0
 
 -- ---- all of a list
-pub lowered-back : (X : List Tri) (own : List ℕ) → all-new X own ≡ true → lower-all X (flag-all X own) ≡ own
+lowered-back : (X : List Tri) (own : List ℕ) → all-new X own ≡ true → lower-all X (flag-all X own) ≡ own
 unfolding all-new flag-all lower-all
 lowered-back [] own h = refl
 lowered-back (t ∷ ts) own h =
@@ -46,7 +46,7 @@ lowered-back (t ∷ ts) own h =
     ap (lower-all ts) (raised-and-lowered (flag-all ts own) t (not-true (flagged (flag-all ts own) t) (p .0))) ∙ lowered-back ts own (p .1)
 
 -- ---- flags of other triangles, each once
-pub new-by-unowned :
+new-by-unowned :
     {X A : List Tri} → Each Proper X → Each Proper A → Once X → ((t : Tri) → Has t X → Has t A → ⊥) → all-new X (flag-all A no-flags) ≡ true
 unfolding all-new
 new-by-unowned none q o strange = refl

@@ -54,7 +54,7 @@ tri-present n t h =
       c-small = leb-false n (t .c) (r .1);
     }
 
-pub boundary-present : (n : ℕ) (T : List Tri) → any-tri-bad n T ≡ false → Each (Proper-below n) T
+boundary-present : (n : ℕ) (T : List Tri) → any-tri-bad n T ≡ false → Each (Proper-below n) T
 unfolding any-tri-bad
 boundary-present n [] h = none
 boundary-present n (t ∷ T) h = let p = or-false (tri-bad n t) (any-tri-bad n T) h in more (tri-present n t (p .0)) (boundary-present n T (p .1))
@@ -68,7 +68,7 @@ corners-present n f u s =
     (more (record { ab = u .ad; ac = u .ac; bc = λ e. u .cd (sym e); a-small = s .a; b-small = s .d; c-small = s .c })
     (more (record { ab = u .bc; ac = u .bd; bc = u .cd; a-small = s .b; b-small = s .c; c-small = s .d }) none)))
 
-pub faces-present : (n : ℕ) (ps : List V3) (f : Four) → Well-formed n f → Each (Proper-below n) (faces (turned ps f))
+faces-present : (n : ℕ) (ps : List V3) (f : Four) → Well-formed n f → Each (Proper-below n) (faces (turned ps f))
 faces-present n ps f g = corners-present n (turned ps f) (turned-distinct-corners ps f (distinct-corners n f g)) (turned-below n ps f below)
   where
     below : Below n f

@@ -54,14 +54,10 @@ module _ {j : Job} {limit : ℕ} where
       subst (λ (q : Option (List Four)). Run j limit n b (xs ++ ys) limit true q)
       (ap (λ (z : ℕ). best-of j b (take z (xs ++ ys))) f ∙ ap (best-of j b) (take-append-add xs ys i) ∙ best-of-append j b xs (take i ys)) (stopped (omega arith) (omega arith))
 
-  -- ---- how many: no more than the limit, no fewer than before
+  -- ---- how many: no more than the limit
   pub run-most : {n m : ℕ} {b c : Option (List Four)} {xs : Trials} {s : Bool} → Run j limit n b xs m s c → m ≤ limit
   run-most (ended h) = h
   run-most (stopped h k) = omega arith
-
-  pub run-grows : {n m : ℕ} {b c : Option (List Four)} {xs : Trials} {s : Bool} → Run j limit n b xs m s c → n ≤ m
-  run-grows (ended h) = omega arith
-  run-grows (stopped h k) = h
 
   -- A RUN OVER ALL TRIALS is what the limit gives
   pub run-all : {m : ℕ} {s : Bool} {c : Option (List Four)} → Run j limit 0 (completed j []) (trials j) m s c → (m ≡ made j limit) × ((s ≡ spent j limit) × (c ≡ within j limit))

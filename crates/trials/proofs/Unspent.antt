@@ -79,7 +79,7 @@ module _ (j : Job) where
       best-of-sound (completed j []) (take l (trials j)) (completed-sound []) (each-take l (trials-sound (suc (choose (length (j .points)) 4)) [] (completed j [])))
 
   -- ---- all of them
-  pub trials-reach :
+  trials-reach :
       Boundary (j .triangles) → any-tri-bad (length (j .points)) (j .triangles) ≡ false → (F : List Four) → lawful j F ≡ true →
       Reached j F (best-of j (completed j []) (trials j))
   unfolding trials

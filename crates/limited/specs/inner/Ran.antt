@@ -3,7 +3,7 @@ use mathlib.Core.Path.{_≡_}
 use mathlib.Core.Bool.{true, false}
 use mathlib.Core.List.{List, _∷_}
 use mathlib.Core.Option.{Option}
-use Prim.Native.Nat.{ℕ, _+_, _-_, _≤_, _<_}
+use Prim.Native.Nat.{ℕ, _-_, _≤_, _<_}
 use lib.ListN.{length}
 use Rattle.geometry.specs.Space.{solid, turned}
 use Rattle.geometry.specs.declared.tetrahedron.Four.{Four}
@@ -16,7 +16,6 @@ use Rattle.laws.specs.inner.NextFour.{Ordered}
 use Rattle.fillings.specs.Part.{shares}
 use Rattle.trials.specs.Trials.{Trials, completed, better, at-face, trials-from}
 use Rattle.trials.specs.Limit.{Run}
-use Rattle.settable.specs.Bytes.{stack}
 use Rattle.settable.specs.Worth.{Surveyed, Worths}
 use Rattle.offers.specs.declared.best.Log.{Log}
 use Rattle.offers.specs.Offered.{best-in, Known}
@@ -58,10 +57,3 @@ with-corner j left S f g bs = completed j (f ∷ S) ∷ trials-from left j (f �
 -- those at an open face, from the corner p on
 abbrev pub from-corner : Job → (left : ℕ) → (S : List Four) → Tri → (p : ℕ) → Option (List Four) → Trials
 from-corner j left S t p b = at-face j (trials-from left j) S t (from (length (j .points) - p) p) b
-
--- the log with one trial more, and the log where the limit is met
-abbrev pub counted-log : Log → Log
-counted-log g = record { limit = g .limit; trials = g .trials + 1; spent = false; found = g .found; count = g .count; worst = g .worst }
-
-abbrev pub stopped-log : Log → Log
-stopped-log g = record { limit = g .limit; trials = g .trials; spent = true; found = g .found; count = g .count; worst = g .worst }

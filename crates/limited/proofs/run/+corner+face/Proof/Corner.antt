@@ -2,7 +2,6 @@
 use mathlib.Core.Path.{_≡_}
 use Prim.Native.Nat.{ℕ, _≤_, _<_}
 use native.Mathlib.Omega.{arith}
-use borrow.Author.Needs.{needs}
 use lib.ListN.{length}
 use Rattle.limited.proofs.run.corner.Reads as corner
 use Rattle.limited.proofs.run.+corner+face.Lts-corner as corner-lts

@@ -1,8 +1,6 @@
 -- The cycle of `limited::run::face` and `limited::run::corner`: what falls at each call, the loop's invariant, and the places that the proofs speak of. Assumes nothing.
-use mathlib.Core.Path.{_≡_}
 use mathlib.Core.List.{List}
 use Prim.Native.Nat.{ℕ, _+_, _-_, _*_, _≤_, _<_}
-use lib.ListN.{length}
 use borrow.Fn.Kinds.{In}
 use borrow.Fn.PlainCycle.{Measures, is, falls, and}
 use Rattle.limited.proofs.run.corner.Reads as corner
@@ -16,9 +14,9 @@ use Rattle.settable.proofs.corner.four_on.Reads as four-on-reads
 use Rattle.settable.proofs.corner.lower_faces.Reads as lower-faces-reads
 use Rattle.settable.proofs.lowest.lowest_open.Reads as lowest-open-reads
 use Rattle.offers.proofs.offer.offer.Reads as offer-reads
-use Rattle.limited.proofs.run.counted.Reads as counted-reads
+use Rattle.offers.proofs.best.counted.Reads as counted-reads
 use Rattle.limited.proofs.run.is_trial.Reads as is-trial-reads
-use Rattle.limited.proofs.run.stopped.Reads as stopped-reads
+use Rattle.offers.proofs.best.stopped.Reads as stopped-reads
 use Rattle.settable.proofs.set.push.Reads as push-reads
 use Rattle.signs.proofs.sides.oriented.Reads as oriented-reads
 use Rattle.laws.specs.Laws.{tri}

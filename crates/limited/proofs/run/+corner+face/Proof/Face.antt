@@ -1,20 +1,19 @@
 -- What `limited::run::face` owes at its calls, in its loop and when it returns. Assumes nothing.
-use mathlib.Core.Path.{_≡_, refl, sym, subst, ap, _∙_}
-use mathlib.Core.Bool.{Bool, true, false, not, _&&_, cond}
+use mathlib.Core.Path.{_≡_, sym, subst, ap, _∙_}
+use mathlib.Core.Bool.{true, _&&_}
 use mathlib.Core.Logic.{inl, inr}
 use mathlib.Core.List.{List}
-use mathlib.Core.Option.{Option, none, some}
-use Prim.Native.Nat.{ℕ, suc, _-_, _+_, _≤_, _<_}
+use mathlib.Core.Option.{none, some}
+use Prim.Native.Nat.{ℕ, suc, _-_, _≤_, _<_}
 use native.Mathlib.Omega.{arith}
 use borrow.Author.Needs.{needs}
 use lib.ListN.{length, replicate}
 use Rattle.limited.proofs.run.face.Reads as face
 use Rattle.limited.proofs.run.+corner+face.Lts-face as face-lts
-use Rattle.laws.specs.Laws.{Tri, tri}
+use Rattle.laws.specs.Laws.{tri}
 use Rattle.laws.specs.Check.{job}
 use Rattle.fillings.specs.Lent.{lent}
 use Rattle.laws.proofs.Choice.Conditions.{accepted}
-use Rattle.laws.proofs.Checker.Points.{points-count}
 use Rattle.geometry.specs.declared.tetrahedron.Four.{Four}
 use Rattle.laws.proofs.Basics.Tests.{and-true}
 use Rattle.trials.specs.Trials.{lowest-open, four-on, can-be-set, good-enough, trials-from}
