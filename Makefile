@@ -2,7 +2,7 @@
 RT = rt
 PREFIX = /usr/local
 CFLAGS = -O2 -Wall -Wextra
-VERSION = 1.4.0
+VERSION = 1.5.0
 SONAME = libcottontuff.so.1
 library = target/staticlib/libcottontuff.a
 shared = target/lib/libcottontuff.so.$(VERSION)

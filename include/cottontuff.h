@@ -34,7 +34,14 @@ int main(void) {
  * - A list is a pointer and its count of elements (not of points or triangles). With count 0 the pointer may be anything, also NULL.
  *   A list may not overlap a buffer that is written to.
  * - A refusal changes no byte of a lent buffer.
- * - Stack: see COTTONTUFF_STACK_BYTES below. */
+ * - Stack: see COTTONTUFF_STACK_BYTES below.
+ *
+ * What changed, for a program written for an older version. No symbol was taken away and no struct changed, so that it links as it is.
+ * - 1.5.0: coordinates reach from -50,000 to 50,000. They reached from -10,000 to 10,000: who relinks gets an answer where a coordinate beyond that got 3, from every function that takes coordinates.
+ *   COTTONTUFF_FURTHEST is 50000: who tests coordinates against it before a call compiles anew, or goes on refusing what the library takes. A value of the bench with such a coordinate held no mesh, and may hold one now.
+ * - 1.4.0: cottontuff_search_limited.
+ * - 1.2.0: the empty job has a filling. It was refused with 2.
+ * - 1.1.0: the functions that end in _inner, and numbers 22 and 23, which only they give. */
 #ifndef COTTONTUFF_H
 #define COTTONTUFF_H
 
@@ -45,7 +52,7 @@ int main(void) {
 extern "C" {
 #endif
 
-#define COTTONTUFF_VERSION "1.4.0"
+#define COTTONTUFF_VERSION "1.5.0"
 
 /* ---- sizes of a job */
 #define COTTONTUFF_LEAST_POINTS 4                              /* or none at all, with every other list empty: the empty job */
@@ -56,7 +63,7 @@ extern "C" {
 #define COTTONTUFF_MOST_FOURS 1820                             /* fours of 16 points: 16 * 15 * 14 * 13 / 24 */
 #define COTTONTUFF_TABLE_LENGTH_OF(n) ((n) * ((n)-1) * ((n)-2) * ((n)-3) / 24) /* entries of the table of n points */
 #define COTTONTUFF_ANSWER_BYTES (4 * COTTONTUFF_MOST_FOURS)    /* 7,280: the least length of the search's buffer */
-#define COTTONTUFF_FURTHEST 10000                              /* coordinates from -10,000 to 10,000 */
+#define COTTONTUFF_FURTHEST 50000                              /* coordinates from -50,000 to 50,000, in jobs, measuring and meshes; 10000 before version 1.5.0 */
 #define COTTONTUFF_MILLIONTHS 1000000                          /* the greatest quality */
 #define COTTONTUFF_UNMEASURED_ENTRY (-1)                       /* in a table: not measured. 0 bars a four: the two are not the same. */
 #define COTTONTUFF_BARRED_ENTRY 0
@@ -80,7 +87,7 @@ enum cottontuff_number {
     COTTONTUFF_DONE = 0,
     COTTONTUFF_BAD_TEXT = 1,         /* printout: over 65,536 bytes, or not of the form */
     COTTONTUFF_POINT_COUNT = 2,      /* not 4 to 16 points, except in the empty job (a mesh: not 4 to 64), or length no multiple of 3 */
-    COTTONTUFF_FAR_COORDINATE = 3,   /* a coordinate below -10,000 or above 10,000 */
+    COTTONTUFF_FAR_COORDINATE = 3,   /* a coordinate below -50,000 or above 50,000 (before version 1.5.0: 10,000) */
     COTTONTUFF_SAME_PLACE = 4,       /* two points in one place */
     COTTONTUFF_TRIANGLE_COUNT = 5,   /* not 4 to 560 triangles, except in the empty job, or length no multiple of 3 */
     COTTONTUFF_BAD_TRIANGLE = 6,     /* a triangle with an absent or repeated point */
@@ -123,7 +130,7 @@ enum cottontuff_number {
  *   cottontuff_search(NULL, 0, NULL, 0, NULL, 0, NULL, 0, answer, sizeof answer)
  * answers number 0, count 0 and worst 1,000,000, and changes no byte of answer, whose length is asked for all the same (14). A loop over the tetrahedra runs no time.
  * The judge passes the empty list with 1,000,000; every other list breaks law 1. With one entry more, in any list, the job is refused with 2.
- * Before version 1.2.0 it was refused with 2: it is the one job that cottontuff_check, cottontuff_judge, cottontuff_search and cottontuff_print answer otherwise than they did. */
+ * Before version 1.2.0 it was refused with 2. */
 
 /* 0 for a job that can be searched, else 2 to 13, 22 or 23. */
 uint32_t cottontuff_check(const int32_t *points, size_t points_len, const uint8_t *triangles, size_t triangles_len,
@@ -189,8 +196,8 @@ cottontuff_limited cottontuff_search_limited(const int32_t *points, size_t point
 
 /* ---- measuring */
 typedef struct {
-    double d;            /* six times the volume, exact; 0 where flat */
-    double s;            /* the sum of the six squared edge lengths, exact */
+    double d;            /* six times the volume, exact, at most 6,000,000,000,000,000, where a double holds every whole number up to 2^53 = 9,007,199,254,740,992; 0 where flat */
+    double s;            /* the sum of the six squared edge lengths, exact, at most 180,000,000,000 */
     double shape;        /* the cube of the mean ratio, above 0 to 1, where roundings may leave it a little above; 0 where flat */
     uint32_t number;     /* 0, or 3 or 16, and then the rest is 0 */
     uint32_t flat;       /* 1 or 0 */

@@ -288,7 +288,7 @@ fn refused(number: u32) -> Result<(), Number> {
 /// `Job::default()` has none: it is the empty job, whose one filling is the empty list, of worst quality 1,000,000.
 #[derive(Clone, Copy, Debug, Default)]
 pub struct Job<'a> {
-    /// x, y, z of each point.
+    /// x, y, z of each point, each from -50,000 to 50,000.
     pub points: &'a [i32],
     /// Three point numbers for each boundary triangle, counter-clockwise seen from outside the cavity.
     pub triangles: &'a [u8],
@@ -340,7 +340,8 @@ pub struct Limited {
     pub trials: u32,
 }
 
-/// A measurement. `s` is the sum of the six squared edge lengths, `d` the determinant, above 0; both without loss.
+/// A measurement. `s` is the sum of the six squared edge lengths, at most 180,000,000,000, `d` the determinant, above 0 and at most 6,000,000,000,000,000; both are whole
+/// numbers below 2^53, and without loss.
 #[derive(Clone, Copy, Debug, PartialEq)]
 pub enum Measured {
     Flat { s: f64 },
@@ -490,7 +491,7 @@ pub fn search_limited(job: &Job, limit: u32) -> Result<Limited, Number> {
     Ok(Limited { ending, filling, trials: limited.trials })
 }
 
-/// Measures the tetrahedron of twelve coordinates, in whichever order of its corners; else 3 or 16.
+/// Measures the tetrahedron of twelve coordinates from -50,000 to 50,000, in whichever order of its corners; else 3 or 16.
 pub fn measure(coordinates: &[i32]) -> Result<Measured, Number> {
     // SAFETY: the pointer and length are those of a slice, which the function only reads.
     let m = unsafe { c::cottontuff_measure(coordinates.as_ptr(), coordinates.len()) };
@@ -829,10 +830,15 @@ mod tests {
         let points = on_a_curve(17);
         assert_eq!(check(&Job { points: &points, ..job }), Err(Number::POINT_COUNT));
         let mut points = B_POINTS;
-        points[14] = -10000;
-        assert_eq!(check(&Job { points: &points, ..b(&[], &B_TABLE) }), Ok(()));
-        points[14] = -10001;
-        assert_eq!(check(&Job { points: &points, ..b(&[], &B_TABLE) }), Err(Number::FAR_COORDINATE));
+        // 10001 was refused before version 1.5.0.
+        for z in [10001, -10001, 50000, -50000] {
+            points[14] = z;
+            assert_eq!(check(&Job { points: &points, ..b(&[], &B_TABLE) }), Ok(()));
+        }
+        for z in [50001, -50001, i32::MAX, i32::MIN] {
+            points[14] = z;
+            assert_eq!(check(&Job { points: &points, ..b(&[], &B_TABLE) }), Err(Number::FAR_COORDINATE));
+        }
     }
 
     #[test]
@@ -910,7 +916,9 @@ mod tests {
     fn measuring_refuses_and_knows_flat() {
         assert_eq!(measure(&[]), Err(Number::NOT_TWELVE));
         assert_eq!(measure(&[0; 13]), Err(Number::NOT_TWELVE));
-        assert_eq!(measure(&[10001; 13]), Err(Number::FAR_COORDINATE));
+        assert_eq!(measure(&[50001; 13]), Err(Number::FAR_COORDINATE));
+        assert_eq!(measure(&[10001; 13]), Err(Number::NOT_TWELVE));
+        assert_eq!(measure(&[50000; 12]), Ok(Measured::Flat { s: 0.0 }));
         assert_eq!(measure(&[i32::MIN; 12]), Err(Number::FAR_COORDINATE));
         assert_eq!(measure(&[0, 0, 0, 1, 0, 0, 0, 1, 0, 1, 1, 0]), Ok(Measured::Flat { s: 8.0 }));
     }
@@ -942,7 +950,7 @@ mod tests {
         };
         assert_eq!(refuses(&[], 0), Err(Number::POINT_COUNT));
         assert_eq!(refuses(&[0; 51], 2380), Err(Number::POINT_COUNT));
-        assert_eq!(refuses(&[0, 0, 0, 1, 0, 0, 0, 1, 0, 0, 0, 10001], 2), Err(Number::FAR_COORDINATE));
+        assert_eq!(refuses(&[0, 0, 0, 1, 0, 0, 0, 1, 0, 0, 0, 50001], 2), Err(Number::FAR_COORDINATE));
         assert_eq!(refuses(&[0, 0, 0, 1, 0, 0, 0, 1, 0, 0, 1, 0], 2), Err(Number::SAME_PLACE));
         assert_eq!(refuses(&B_POINTS, 4), Err(Number::TABLE_LENGTH));
         assert_eq!(refuses(&B_POINTS, 6), Err(Number::TABLE_LENGTH));

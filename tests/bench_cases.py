@@ -1,10 +1,12 @@
 #!/usr/bin/env python3
-"""Makes the input of crates/bench_cases from the shared bench sessions and meshes (default ../shared/jobs), and sessions of its own for 37 and 38: standard output.
+"""Makes the input of crates/bench_cases from the shared bench sessions and meshes (default ../shared/jobs), those with coordinates to 50,000 in slip-05/bench, and sessions of its own for 37 and 38: standard output.
+A session with a coordinate of 10,001, which was out of range, has its new answers in slip-05/changed where they changed; it is played too with 50,001 in its place, and the old answers.
 Values that the struct of fixed arrays can't hold (qualities of another count than the tetrahedra, a cavity's number above 255) are left out and counted on standard error."""
 import functools
 import itertools
 import operator
 import pathlib
+import re
 import sys
 
 
@@ -67,6 +69,14 @@ def session(text):
         else:
             operation = {'grow': 'G', 'replace': 'R', 'close': 'C'}[word]
     return out
+
+
+def told(jobs, path):
+    """The stored session with the answers in force, and its twin beyond the range where it has one."""
+    text = path.read_text()
+    changed = jobs / 'slip-05' / 'changed' / f'bench-{path.name}'
+    beyond, far = re.subn(r'\b10001\b', '50001', text)
+    return [changed.read_text() if changed.exists() else text] + [beyond] * bool(far)
 
 
 def mesh_of(path):
@@ -136,13 +146,14 @@ def made():
 def main():
     jobs = pathlib.Path(sys.argv[1] if len(sys.argv) > 1 else '../shared/jobs')
     left_out = 0
-    for path in sorted((jobs / 'bench').glob('*.txt')):
-        lines = session(path.read_text())
-        if lines is None:
-            left_out += 1
-            print(f'left out: {path.name}', file=sys.stderr)
-        else:
-            print('\n'.join(lines))
+    for path in sorted((jobs / 'bench').glob('*.txt')) + sorted((jobs / 'slip-05' / 'bench').glob('*.txt')):
+        for text in told(jobs, path):
+            lines = session(text)
+            if lines is None:
+                left_out += 1
+                print(f'left out: {path.name}', file=sys.stderr)
+            else:
+                print('\n'.join(lines))
     for path in sorted((jobs / 'meshes').glob('*.mesh')):
         print('\n'.join(replay(path)))
     for lines in made():

@@ -4,7 +4,8 @@
     tests/law_cases.py [JOBS [OUT]]
 
 JOBS (../shared/jobs) has small/NAME.txt, a job; small/NAME.out, its printout; judge/cases.txt, lines NAME;LIST;RESULT; and the same of jobs with inner triangles in
-slip-01/, with the lists in slip-01/judge.txt; and slip-02/judge-lists.txt, lines P;T;E;K;Q;LIST;RESULT about the empty job.
+slip-01/, with the lists in slip-01/judge.txt; slip-02/judge-lists.txt, lines P;T;E;K;Q;LIST;RESULT about the empty job; and slip-05/, jobs with coordinates to 50,000.
+A job that was refused with 3 for a coordinate that is in range by now has its new answer in slip-05/changed or tests/changed; it is asked too with 50,001 in the place of that coordinate, and the old answer.
 OUT (crates/law_cases/stdin) has the form that crates/law_cases/src/main.rt describes.
 """
 import itertools
@@ -181,6 +182,19 @@ def edited_lines(text):
     return [job_line(name, job, number) for name, (job, number) in edits.items()]
 
 
+def changed(out):
+    """Where the printout of a job stands that a later request changed, if one did."""
+    places = (out.parent.parent / "slip-05" / "changed" / out.name, ROOT / "tests" / "changed" / out.name)
+    return next((place for place in places if place.exists()), None)
+
+
+def beyond(text):
+    """The text with 50,001 in the place of each coordinate beyond 10,000."""
+    lines = [line.split(",") for line in text.splitlines()]
+    far = [[("-50001" if x < "0" else "50001") if abs(int(x)) > 10000 else x for x in line[1:]] if line[0] == "P" else line[1:] for line in lines]
+    return "".join(",".join(line[:1] + fields) + "\n" for line, fields in zip(lines, far))
+
+
 def folder_lines(folder, lists, longest, left_out):
     """The lines of the folder's jobs; their lists are taken out of `lists`."""
     lines = []
@@ -191,7 +205,11 @@ def folder_lines(folder, lists, longest, left_out):
         try:
             # Texts of any bytes: what is no ASCII is refused with 1.
             text = path.read_bytes().decode("latin-1")
-            found = lines_of(path.stem, text, out.read_text() if out.exists() else "", lists.get(path.stem, []))
+            before = out.read_text() if out.exists() else ""
+            now = changed(out)
+            found = lines_of(path.stem, text, now.read_text() if now else before, lists.get(path.stem, []))
+            if now:
+                found += lines_of(path.stem + "-beyond", beyond(text), before, [])
             if len(found[0]) > longest and path.stem not in lists:
                 raise LeftOut("a longer line than LONGEST")
             lines += found
@@ -207,6 +225,7 @@ def main(jobs, out):
     lines = folder_lines(jobs / "small", lists, 1 << 20, left_out)
     inner_lists = stored_lists(jobs / "slip-01" / "judge.txt", [])
     lines += folder_lines(jobs / "slip-01", inner_lists, LONGEST, left_out)
+    lines += folder_lines(jobs / "slip-05", {}, LONGEST, left_out)
     lists.update(inner_lists)
     lines += listed_lines(EMPTY_LISTS + (jobs / "slip-02" / "judge-lists.txt").read_text().splitlines())
     lines += edited_lines((jobs / "small" / "case-B.txt").read_text())

@@ -55,15 +55,15 @@ int main(int argc, char **argv) {
     refused("three points", p, 9, 0, 2);
     refused("a coordinate over", p, 13, 1, 2);
     refused("17 points", p, 51, 2380, 2);
-    p[14] = 10001;
+    p[14] = 50001;
     refused("a far coordinate, before a short table", p, 15, 1, 3);
-    p[14] = -10001;
+    p[14] = -50001;
     refused("a far coordinate", p, 15, 5, 3);
     p[14] = INT32_MIN;
     refused("the furthest coordinate", p, 15, 5, 3);
     p[12] = p[13] = p[14] = 0;
     refused("two points in one place, before a short table", p, 15, 4, 4);
-    p[14] = 10000;
+    p[14] = 50000;
     refused("a short table", p, 15, 4, 11);
     refused("a long table", p, 15, 6, 11);
     refused("no table", p, 15, 0, 11);

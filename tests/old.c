@@ -38,6 +38,8 @@ int main(void) {
     points_len = 14;
     show("2");
     points[14] = -10001;
+    show("a coordinate that was 3 in that version");
+    points[14] = -50001;
     show("3");
     memcpy(points + 12, points, 3 * sizeof *points);
     show("4");

@@ -28,7 +28,7 @@ enum { CASES = 1024, REPEATS = 31, ROUNDS = 100, COORDINATES = 24 };
 typedef int32_t points[COORDINATES];
 typedef int64_t vector[3];
 
-static points anywhere[CASES], touching[CASES], parted_first[CASES], unparted[CASES];
+static points anywhere[CASES], touching[CASES], parted_first[CASES], unparted[CASES], furthest[CASES], furthest_unparted[CASES];
 static int64_t sink;
 
 // ---- the same in plain C
@@ -158,7 +158,8 @@ static void timed(const char *name, call *f, points *cases) {
 int main(void) {
     draw(anywhere, 10000, 0, 44), draw(touching, 2, 0, 44);
     draw(parted_first, 10000, 0, 0), draw(unparted, 10000, 44, 44);
-    compare(anywhere), compare(touching), compare(parted_first), compare(unparted);
+    draw(furthest, 50000, 0, 44), draw(furthest_unparted, 50000, 44, 44);
+    compare(anywhere), compare(touching), compare(parted_first), compare(unparted), compare(furthest), compare(furthest_unparted);
     printf("nanoseconds a call, median (range) of %d repeats of %d calls\n", REPEATS, ROUNDS * CASES);
     timed("an empty call", call_none, anywhere);
     timed("the checks of 4 points", call_present_4, anywhere);
@@ -170,6 +171,12 @@ int main(void) {
     timed("not apart: all 44 directions, checks twice", call_apart, unparted);
     timed("apart or not, random pairs, checks twice", call_apart, anywhere);
     timed("measure with millionths, and the checks", call_measure, anywhere);
+    puts("the same with coordinates to the limit, 50,000; above they reach 10,000");
+    timed("D, and the checks", call_volume, furthest);
+    timed("inside, and the checks", call_inside, furthest);
+    timed("not apart: all 44 directions, checks twice", call_apart, furthest_unparted);
+    timed("apart or not, random pairs, checks twice", call_apart, furthest);
+    timed("measure with millionths, and the checks", call_measure, furthest);
     fprintf(stderr, "%" PRId64 "\n", sink);
     return 0;
 }

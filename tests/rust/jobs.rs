@@ -60,7 +60,7 @@ impl Made {
 
 /// So many different places: on a small grid, on two planes of it, or far out. A grid that is full gets wider.
 fn places(random: &mut Random, count: usize) -> Vec<i32> {
-    let most = random.any(&[1, 2, 2, 3, 4, 6, 40, 10_000]);
+    let most = random.any(&[1, 2, 2, 3, 4, 6, 40, 10_000, 50_000]);
     let least = if random.one_in(2) { -most } else { 0 };
     let height = if random.one_in(4) { 1 } else { most };
     let mut places: BTreeSet<[i32; 3]> = BTreeSet::new();
@@ -69,8 +69,8 @@ fn places(random: &mut Random, count: usize) -> Vec<i32> {
     while list.len() < 3 * count {
         tries += 1;
         let wider = if tries > 50 { 3 } else { 0 };
-        let mut place = [0; 3].map(|_| random.within(least, (most + wider).min(10_000)));
-        place[2] = random.within(0, (height + wider).min(10_000));
+        let mut place = [0; 3].map(|_| random.within(least, (most + wider).min(50_000)));
+        place[2] = random.within(0, (height + wider).min(50_000));
         if places.insert(place) {
             list.extend(place);
         }
@@ -249,8 +249,8 @@ pub fn sound(random: &mut Random, count: usize) -> Made {
 }
 
 /// Coordinates and entries at and beyond the limits.
-const EDGES: [i32; 14] =
-    [10_000, 10_001, -10_000, -10_001, -1, 0, 1, -2, 1_000_000, 1_000_001, i32::MIN, i32::MAX, i32::MIN + 1, 65_536];
+const EDGES: [i32; 15] =
+    [50_000, 50_001, -50_000, -50_001, 10_001, -1, 0, 1, -2, 1_000_000, 1_000_001, i32::MIN, i32::MAX, i32::MIN + 1, 65_536];
 
 /// One fault, or a change that is none, in one of the lists.
 fn damage_list<T: Clone>(random: &mut Random, list: &mut Vec<T>, any: impl Fn(&mut Random) -> T) {

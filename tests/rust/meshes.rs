@@ -127,7 +127,7 @@ pub fn damaged(random: &mut Random, mut mesh: Mesh) -> Mesh {
     match random.below(9) {
         0 => mesh.points.truncate(random.any(&[0, 9, 11, 12, 13])),
         1 => mesh.points.extend((0..3 * random.any(&[1, 61, 1000])).map(|i| i % 9_000 + 200)),
-        2 => mesh.points[point] = random.any(&[10_000, 10_001, -10_001, i32::MIN, i32::MAX]),
+        2 => mesh.points[point] = random.any(&[50_000, 50_001, -50_001, 10_001, i32::MIN, i32::MAX]),
         3 => mesh.points.copy_within(0..3, point / 3 * 3),
         4 => mesh.tets.truncate(random.any(&[0, 1, 3, 4, 5])),
         5 => mesh.tets.extend((0..4 * random.any(&[1, 257, 5000])).map(|i| i as u8)),

@@ -8,7 +8,7 @@ fn print(text: &[u8]) {
 }
 
 pub fn print_version() {
-    print(b"cavity 1.4.0\n");
+    print(b"cavity 1.5.0\n");
 }
 
 pub fn print_help() {
@@ -24,7 +24,7 @@ and prints the filling, or the number that refuses the job.\n\
 \x20 --         ends the options\n\
 \n\
 A job is lines that end with LF, fields parted by commas without blanks, in this order of kinds:\n\
-\x20 P,x,y,z      a point; whole coordinates from -10000 to 10000; 4 to 16 of them, numbered from 0\n\
+\x20 P,x,y,z      a point; whole coordinates from -50000 to 50000; 4 to 16 of them, numbered from 0\n\
 \x20 T,a,b,c      a boundary triangle, counter-clockwise seen from outside; 4 to 560 of them\n\
 \x20 E,a,b        an edge to be kept; up to 120 of them\n\
 \x20 K,a,b,c      a triangle inside to be kept as a face; up to 560 of them\n\

@@ -198,7 +198,7 @@ fn put_over<'a>(triangles: &[u8], len: usize, out: &'a mut [u8]) -> &'a [u8] {
 
 // The corner of a cube, with the given size of it along x and z.
 fn with_corner(x: i32, z: i32, number: u32, tally: Counts) -> Counts {
-    let points = [0, 0, 0, x, 0, 0, 0, 10_000, 0, 0, 0, z];
+    let points = [0, 0, 0, x, 0, 0, 0, 50_000, 0, 0, 0, z];
     let triangles = A;
     let chosen = CORNER;
     let table = [1i32];
@@ -293,10 +293,10 @@ fn with_one_entry(tally: Counts) -> Counts {
 
 pub fn with_limits(tally: Counts) -> Counts {
     let t = with_ring(tally);
-    let t2 = with_corner(10_000, 10_000, 0, t);
-    let t3 = with_corner(10_001, 10_000, 3, t2);
-    let t4 = with_corner(-10_000, -10_000, 0, t3);
-    let t5 = with_corner(10_000, -10_001, 3, t4);
+    let t2 = with_corner(50_000, 50_000, 0, t);
+    let t3 = with_corner(50_001, 50_000, 3, t2);
+    let t4 = with_corner(-50_000, -50_000, 0, t3);
+    let t5 = with_corner(50_000, -50_001, 3, t4);
     // 560 inner triangles, 561, and two begun.
     let t6 = with_inner(1680, 0, t5);
     let t7 = with_inner(1683, 22, t6);

@@ -6,6 +6,7 @@ use lines::tally::Counts;
 use lines::tally::print;
 use lines::tally::print_count;
 use random_jobs::points::has_void;
+use random_jobs::points::is_wide;
 use std::num::wrapping_add_usize as plus;
 use std::num::wrapping_sub_usize as minus;
 
@@ -32,30 +33,33 @@ const PARTS: usize = 23;
 
 const VOIDS: usize = 24;
 
+// Accepted jobs with points over the whole range of a coordinate.
+const WIDE: usize = 25;
+
 // Jobs with inner triangles that have no lawful filling.
-const UNFILLED: usize = 25;
+const UNFILLED: usize = 26;
 
 // Accepted jobs with too many fours for the enumerator; they are not compared further.
-const SKIPPED: usize = 26;
+const SKIPPED: usize = 27;
 
 // Lists judged of accepted jobs, by the lowest law broken, 0 for lawful ones.
-pub const LAWS: usize = 27;
+pub const LAWS: usize = 28;
 
 // Lists judged of refused jobs.
-pub const REFUSED: usize = 36;
+pub const REFUSED: usize = 37;
 
 // Answers of the limited search: all, those that the limit stopped, by whether a filling was found, and the others.
-const LIMITED: usize = 37;
+const LIMITED: usize = 38;
 
-const SPENT_FILLED: usize = 38;
+const SPENT_FILLED: usize = 39;
 
-const SPENT_UNFILLED: usize = 39;
+const SPENT_UNFILLED: usize = 40;
 
-const UNSPENT: usize = 40;
+const UNSPENT: usize = 41;
 
-const COMPARED: usize = 41;
+const COMPARED: usize = 42;
 
-const DIFFERENT: usize = 42;
+const DIFFERENT: usize = 43;
 
 // The most differences that are named.
 const NAMED: u64 = 10;
@@ -127,10 +131,11 @@ pub fn with_kind(
     best: Best,
     tally: Counts,
 ) -> Counts {
+    let t = tally.more_if(is_wide(seed), WIDE);
     if best.lawful == 0 {
-        return tally.more_if(inner.len() > 0, UNFILLED);
+        return t.more_if(inner.len() > 0, UNFILLED);
     }
-    let a = tally.more_if(best.lawful > 1, SEVERAL);
+    let a = t.more_if(best.lawful > 1, SEVERAL);
     let b = a.more_if(best.ties > 1, TIES);
     let c = b.more_if(has_inner_point(points.len() / 3, triangles), INNER_POINTS);
     let d = c.more_if(kept.len() > 0, KEPT);
@@ -146,8 +151,8 @@ pub fn print_tally(tally: Counts) {
         0,
         b" jobs\n; answered 2\n; answered 3\n; answered 4\n; answered 5\n; answered 6\n; answered 7\n; answered 8\n; answered 9\n; answered 10\n; answered 11\n; \
         answered 12\n; answered 13\n; answered 14\n; answered 15\n; answered 22\n; answered 23\n; filled\n; with several lawful fillings\n; with several of the best worst quality\n; \
-        filled with a point off the boundary\n; filled with kept edges\n; filled with inner triangles\n; filled in several components, of a tetrahedron each\n; filled around a void\n; \
-        answered 15 with inner triangles\n; skipped\n; lists judged lawful\n; lists judged to break law 1\n; lists judged to break law 2\n; lists judged to break law 3\n; lists judged to break \
+        filled with a point off the boundary\n; filled with kept edges\n; filled with inner triangles\n; filled in several components, of a tetrahedron each\n; filled around a void\n; accepted with \
+        points over the whole range\n; answered 15 with inner triangles\n; skipped\n; lists judged lawful\n; lists judged to break law 1\n; lists judged to break law 2\n; lists judged to break law 3\n; lists judged to break \
         law 4\n; lists judged to break law 5\n; lists judged to break law 6\n; lists judged to break law 7\n; lists judged to break law 8\n; lists judged of refused jobs\n; limited \
         answers\n; spent with a filling\n; spent without one\n; unspent\n; compared, ; different\n;",
     );

@@ -112,7 +112,7 @@ fn is_wrong(
     match number {
         3 => {
             let x = number_at(points, i, 0);
-            (x < -10_000) | (x > 10_000)
+            (x < -50_000) | (x > 50_000)
         }
         4 => is_taken(points, i),
         6 => is_bad(triangle_at(triangles, i), n),

@@ -2,8 +2,8 @@
 ghost use mathlib.Core.Path.{_≡_};
 ghost use Rattle.geometry.specs.Range.{far, any-far};
 
-// The greatest size of a coordinate.
-pub(crate) const FURTHEST: i32 = 10_000;
+// The greatest size of a coordinate, as `furthest`.
+pub(crate) const FURTHEST: i32 = 50_000;
 
 fn is_far(x: i32) -> bool
     ensures { λ r. ⌜ r ≡ far x ⌝ }

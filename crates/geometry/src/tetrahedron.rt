@@ -39,7 +39,7 @@ pub fn corner_points(points: &[i32], f: Four) -> Corners
     Corners { a, b, c, d }
 }
 
-// D of document 01: six times the signed volume.
+// D of document 01: six times the signed volume, at most 6,000,000,000,000,000 either way.
 pub fn signed_volume(points: &[i32], f: Four) -> i64
     requires { ⌜ Present (now points) f ⌝ }
     ensures { λ r. ⌜ r ≡ value (D (points-in (now (points .entry))) f) ⌝ }

@@ -1,4 +1,4 @@
-// Vectors of three i64. Each operation is asked for only where its result cannot overflow; specs/inner/Bounded has the ranges.
+// Vectors of three i64. Each operation is asked for only where its result cannot overflow; specs/Range has the ranges.
 ghost use mathlib.Core.Path.{_≡_};
 ghost use mathlib.Core.Bool.{false};
 ghost use Prim.Native.Nat.{_<_};
@@ -8,10 +8,10 @@ ghost use lib.IntN.{pos, natAbs};
 ghost use lib.Signed.{ltZ};
 ghost use Rattle.geometry.specs.Space.{points-in, point};
 ghost use Rattle.geometry.specs.inner.Vectors.{vector, difference, cross-product, dot-product, det-of};
-ghost use Rattle.geometry.specs.Range.{any-far, furthest};
-ghost use Rattle.geometry.specs.inner.Bounded.{longest, widest, Bounded};
+ghost use Rattle.geometry.specs.Range.{any-far, furthest, longest, widest};
+ghost use Rattle.geometry.specs.inner.Bounded.{Bounded};
 
-// A point, an edge or a direction.
+// A point (coordinates to 50,000), an edge (to 100,000) or a direction (to 20,000,000,000, more than 32 bits hold).
 pub struct Vector {
     pub x: i64,
     pub y: i64,
@@ -59,7 +59,7 @@ pub fn cross(a: Vector, b: Vector) -> Vector
     }
 }
 
-// A direction with a point or an edge.
+// A direction with a point or an edge: at most 6,000,000,000,000,000 either way.
 pub fn dot(n: Vector, p: Vector) -> i64
     requires { ⌜ Bounded widest n × Bounded longest p ⌝ }
     ensures { λ r. ⌜ r ≡ dot-product n p ⌝ }
@@ -79,7 +79,7 @@ pub(crate) fn is_positive(v: i64) -> bool
     0 < v
 }
 
-// The determinant of b - a, c - a, d - a: six times the signed volume of the tetrahedron.
+// The determinant of b - a, c - a, d - a: six times the signed volume of the tetrahedron, at most 6,000,000,000,000,000 either way.
 pub(crate) fn det(a: Vector, b: Vector, c: Vector, d: Vector) -> i64
     requires { ⌜ Bounded furthest a × Bounded furthest b × Bounded furthest c × Bounded furthest d ⌝ }
     ensures { λ r. ⌜ r ≡ det-of a b c d ⌝ }

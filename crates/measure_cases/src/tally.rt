@@ -62,7 +62,7 @@ fn with_difference(tally: Counts) -> Counts {
 fn with_line(tally: Counts, line: &[u8]) -> Counts {
     let t = tally.more(LINES);
     // A case has twelve, or shows that another count is refused.
-    let mut room = [0i32; 16];
+    let mut room = [0i32; 32];
     let text = before(line, b';');
     let xs = integers(text, &mut room);
     if !is_list(text, xs.len()) {

@@ -6,9 +6,9 @@ ghost use mathlib.Core.Bool.{false, _||_};
 ghost use Prim.Native.Nat.{_<_};
 ghost use lib.ListN.{length};
 ghost use Rattle.geometry.specs.Space.{points-in, parts-them, apart};
-ghost use Rattle.geometry.specs.Range.{any-far, furthest, Present};
+ghost use Rattle.geometry.specs.Range.{any-far, furthest, longest, widest, Present};
 ghost use Rattle.geometry.specs.inner.Vectors.{cross-product, dot-product};
-ghost use Rattle.geometry.specs.inner.Bounded.{longest, widest, Bounded};
+ghost use Rattle.geometry.specs.inner.Bounded.{Bounded};
 ghost use Rattle.separation.specs.inner.Directions.{zero-vector, normals-of, edge-vectors, crosses-of, all-crosses-of};
 ghost use Rattle.separation.specs.inner.Rows.{Row-of, row-vector, edge-from, four-at, four-from, direction, row-points, Rows-near, Held, parting, any-parting};
 ghost use Rattle.separation.specs.inner.Extents.{lesser-of, greater-of, only, widened, clear};
@@ -20,7 +20,7 @@ use geometry::vector::is_zero;
 use geometry::vector::minus;
 use geometry::vector::point;
 
-// The least and the greatest of the values of some corners along a direction.
+// The least and the greatest of the values of some corners along a direction, within 6,000,000,000,000,000 either way.
 pub(crate) struct Extent {
     pub(crate) least: i64,
     pub(crate) greatest: i64,

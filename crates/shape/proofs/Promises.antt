@@ -10,11 +10,11 @@ use lib.IntN.{ℤ}
 use borrow.Author.Tests.{eqb-true, eqb-false}
 use Rattle.geometry.specs.Space.{V3, points-in, four}
 use Rattle.geometry.specs.Range.{any-far}
-use Rattle.shape.specs.Measure.{measure-refusal, D-of, S-of, double, shape-of, is-flat, sizes, millionths, million-times, measured-when, measured-four, measured-as, measured, Exactly, Sizes-exact, Shape-bound, Measured-sizes-exact, Measured-shape-bound, Millionths-floor}
+use Rattle.shape.specs.Measure.{measure-refusal, D-of, S-of, double, shape-of, is-flat, sizes, millionths, million-times, measured-when, measured-four, measured-as, measured, Exactly, D-bounded, S-bounded, Sizes-exact, Shape-bound, Measured-sizes-exact, Measured-shape-bound, Millionths-floor}
 use Rattle.geometry.specs.declared.tetrahedron.Four.{Four}
 use Rattle.shape.specs.declared.measure.Measurement.the-variants.{Shape}
 use Rattle.shape.proofs.Measuring.Near.{whole-value, shape-whole}
-use Rattle.shape.proofs.Measuring.Bounds.{D-small, S-small, S-above}
+use Rattle.shape.proofs.Measuring.Bounds.{D-up, D-small, S-up, S-small, S-above}
 use Rattle.shape.proofs.Measuring.Millionths.{floor-holds}
 
 pub millionths-floor : Millionths-floor
@@ -22,6 +22,14 @@ unfolding Millionths-floor millionths
 millionths-floor q = floor-holds (million-times q)
 
 -- ---- of any four
+pub d-bounded : D-bounded
+unfolding D-bounded
+d-bounded cs f near = D-up cs f near
+
+pub s-bounded : S-bounded
+unfolding S-bounded
+s-bounded cs f near = S-up cs f near
+
 exactly : (n : ℕ) → n ≤ 2 ^ 53 → Exactly (double n) n
 unfolding double
 exactly n h = record { small = h; value = whole-value n h }

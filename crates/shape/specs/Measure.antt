@@ -2,7 +2,7 @@
 use mathlib.Core.Path.{_≡_}
 use mathlib.Core.Bool.{Bool, true, false, cond}
 use mathlib.Core.List.{List}
-use Prim.Native.Nat.{ℕ, zero, suc, _+_, _-_, _^_, _≤_, min}
+use Prim.Native.Nat.{ℕ, zero, suc, _+_, _-_, _*_, _^_, _≤_, min}
 use lib.Dec.{ltb, eqb}
 use lib.ListN.{length}
 use lib.IntN.{ℤ, pos, negsuc}
@@ -10,7 +10,7 @@ use lib.Ieee.{Float, binary64, mul, div, ofInt, toUnsigned}
 use lib.Ieee.Exact.{HasValue}
 use Rattle.geometry.specs.Space.{Z, plus, V3, less, dot, four, point, points-in, D}
 use Rattle.geometry.specs.declared.tetrahedron.Four.{Four}
-use Rattle.geometry.specs.Range.{any-far}
+use Rattle.geometry.specs.Range.{any-far, longest, deepest}
 use Rattle.shape.specs.Shape.{Within}
 use Rattle.shape.specs.Floor.{Floor}
 use Rattle.shape.specs.declared.measure.Measurement.{Measurement}
@@ -140,7 +140,14 @@ pub record Exactly (x : Float) (n : ℕ) : Type 0 where
   pub small : n ≤ 2 ^ 53
   pub value : HasValue x false n 1
 
--- D and S of any four go into doubles without loss
+-- how large they are for any four in range: D at most 6,000,000,000,000,000, S at most 180,000,000,000
+unfoldable pub D-bounded : Type 0
+D-bounded = (cs : List ℤ) (f : Four) → any-far cs ≡ false → D-of (points-in cs) f ≤ deepest
+
+unfoldable pub S-bounded : Type 0
+S-bounded = (cs : List ℤ) (f : Four) → any-far cs ≡ false → S-of (points-in cs) f ≤ 18 * (longest * longest)
+
+-- D and S of any four go into doubles without loss: neither is above 2 ^ 53 = 9,007,199,254,740,992 (`Deepest-exact` of geometry's Range)
 unfoldable pub Sizes-exact : Type 0
 Sizes-exact =
     (cs : List ℤ) (f : Four) → any-far cs ≡ false →

@@ -3,8 +3,8 @@ ghost use mathlib.Core.Path.{_≡_};
 ghost use Prim.Native.Nat.{_*_, _^_, _≤_};
 ghost use lib.IntN.{pos, natAbs};
 ghost use Rattle.geometry.specs.Space.{points-in};
-ghost use Rattle.geometry.specs.Range.{furthest, Present};
-ghost use Rattle.geometry.specs.inner.Bounded.{longest, Bounded, In-range};
+ghost use Rattle.geometry.specs.Range.{furthest, longest, Present};
+ghost use Rattle.geometry.specs.inner.Bounded.{Bounded, In-range};
 ghost use Rattle.shape.specs.inner.Squares.{square-of, squares-of};
 ghost use Rattle.shape.specs.Measure.{number-of, flat-of, shape-number, sizes, millionths, millionths-of, refused, measured-four, Measures};
 use geometry::range::any_far;
@@ -24,7 +24,8 @@ pub enum Measurement {
     Shape(f64),
 }
 
-// What is kept with it, as doubles and without loss: D, S and the shape number.
+// What is kept with it, as doubles: D and S without loss, whole numbers of at most 6,000,000,000,000,000 and 180,000,000,000, where a double holds every one
+// up to 2^53 = 9,007,199,254,740,992; and the shape number.
 pub struct Sizes {
     pub d: f64,
     pub s: f64,
@@ -118,6 +119,7 @@ fn sized(d: f64, s: f64) -> Sizes
     Sizes { d, s, shape }
 }
 
+// The squared length of an edge: at most 30,000,000,000.
 fn square(p: Vector, q: Vector) -> i64
     requires { ⌜ Bounded furthest p × Bounded furthest q ⌝ }
     ensures { λ r. ⌜ (r ≡ square-of p q) × (natAbs r ≤ longest * longest * 3) ⌝ }
@@ -126,7 +128,7 @@ fn square(p: Vector, q: Vector) -> i64
     dot(e, e)
 }
 
-// S of document 01: the sum of the six squared edge lengths.
+// S of document 01: the sum of the six squared edge lengths, at most 180,000,000,000.
 fn squares(t: Corners) -> i64
     requires { ⌜ In-range t ⌝ }
     ensures { λ r. ⌜ r ≡ squares-of t ⌝ }
@@ -182,7 +184,7 @@ fn refuse(number: u32) -> Measured
     }
 }
 
-// Measures the tetrahedron of twelve coordinates; 3, then 16, for any others.
+// Measures the tetrahedron of twelve coordinates from -50,000 to 50,000; 3, then 16, for any others. D and S are exact.
 pub fn measure(coordinates: &[i32]) -> Measured
     ensures { λ r. ⌜ Measures (now (coordinates .entry)) r ⌝ }
 {

@@ -56,7 +56,7 @@ pub fn say_refusal(text: &[u8]) {
         b"15: no lawful filling exists\n|\
 1: the text has over 65536 bytes\n|\
 2: there are not 4 to 16 points (P lines); only a job with nothing at all may have none\n|\
-3: %P: a coordinate of point %n is outside -10000 to 10000\n|\
+3: %P: a coordinate of point %n is outside -50000 to 50000\n|\
 4: %P and %P: points %n and %n lie in one place\n|\
 5: there are not 4 to 560 triangles (T lines)\n|\
 6: %T: it names an absent point, or one point twice\n|\

@@ -190,7 +190,7 @@ fn changed(random: &mut Random, mut raw: c::Bench) -> c::Bench {
         5 => raw.in_points[random.below(points)] = byte,
         6 => raw.in_points[random.below(64)] = byte,
         7 => raw.qualities[random.below(tets)] ^= random.any(&[1, 1 << 31]),
-        8 => raw.points[random.below(3 * points)] = random.any(&[0, 10_000, 10_001, i32::MIN]),
+        8 => raw.points[random.below(3 * points)] = random.any(&[0, 10_001, 50_000, 50_001, i32::MIN]),
         9 => raw.tets[random.below(4 * tets)] = random.any(&[0, 1, 63, 64, 255]),
         10 => raw.count = random.any(&[7, u32::MAX - 1, u32::MAX]),
         _ => {

@@ -11,21 +11,21 @@ pub const GROUP: Group =
     Group { name: "measure", run, wanted: |_| (refusals([3, 16], &["flat", "shape", "shape above 1"]), 500) };
 
 fn coordinates(random: &mut Random) -> Vec<i32> {
-    let size = random.any(&[1, 2, 3, 10, 100, 10_000]);
+    let size = random.any(&[1, 2, 3, 10, 100, 10_000, 50_000]);
     let count = if random.one_in(8) { random.any(&[0, 1, 3, 11, 13, 24, 1000]) } else { 12 };
     let mut list: Vec<i32> = (0..count).map(|_| random.within(-size, size)).collect();
     match random.below(6) {
         0 if !list.is_empty() => {
             let at = random.below(list.len());
-            list[at] = random.any(&[10_000, -10_000, 10_001, -10_001, i32::MIN, i32::MAX, 65_536, -65_536]);
+            list[at] = random.any(&[50_000, -50_000, 50_001, -50_001, 10_001, i32::MIN, i32::MAX, 65_536, -65_536]);
         }
         // Far corners, and thin elements between them.
-        1 => list.iter_mut().for_each(|x| *x = random.any(&[-10_000, 10_000, 9_999, -9_999])),
+        1 => list.iter_mut().for_each(|x| *x = random.any(&[-50_000, 50_000, 49_999, -49_999])),
         // The last corner in the plane of the others.
         2 if list.len() == 12 => (0..3).for_each(|i| list[9 + i] = list[i] + list[3 + i] - list[6 + i]),
         // A regular one: the shape number is 1 but for its roundings, and may be above.
         3 if list.len() == 12 => {
-            let k = random.within(1, 10_000);
+            let k = random.within(1, 50_000);
             list = vec![0, 0, 0, k, k, 0, k, 0, k, 0, k, k];
         }
         _ => {}

@@ -51,6 +51,13 @@ fn operation(line: &str) -> Option<Operation> {
     }
 }
 
+/// The stored session, or the one with new answers where a later request changed some: slip-05/changed/bench-NAME.txt.
+fn in_force(folder: &Path, path: &Path) -> PathBuf {
+    let name = path.file_name().unwrap_or_default().to_string_lossy().into_owned();
+    let changed = folder.join("slip-05/changed").join(format!("bench-{name}"));
+    if changed.exists() { changed } else { path.to_path_buf() }
+}
+
 fn told(tally: &mut Tally, path: &Path) {
     let mut raw = arrays(&Bench::default());
     let mut number = 0;
@@ -107,7 +114,7 @@ fn run(part: &Part) -> Tally {
         let paths: Vec<PathBuf> = [files(&folder.join("bench")), files(&folder.join("meshes"))].concat();
         for path in paths.iter().skip(part.number as usize).step_by(part.of as usize) {
             match path.extension().and_then(|e| e.to_str()) {
-                Some("txt") => told(&mut tally, path),
+                Some("txt") => told(&mut tally, &in_force(folder, path)),
                 Some("script") => script(&mut tally, path),
                 _ => {}
             }

@@ -11,18 +11,18 @@ pub const GROUP: Group =
     Group { name: "tables", run, wanted: |_| (refusals([2, 3, 4, 11], &["measured", "with flat fours"]), 100) };
 
 fn points(random: &mut Random) -> Vec<i32> {
-    let size = random.any(&[1, 2, 5, 100, 10_000]);
+    let size = random.any(&[1, 2, 5, 100, 10_000, 50_000]);
     let count = random.any(&[0, 3, 4, 4, 5, 6, 7, 8, 11, 16, 17]);
     let mut list: Vec<i32> = (0..3 * count).map(|_| random.within(-size, size)).collect();
     match random.below(12) {
         0 => list.push(random.within(-size, size)),
         1 if !list.is_empty() => {
             let at = random.below(list.len());
-            list[at] = random.any(&[10_000, -10_000, 10_001, -10_001, i32::MIN, i32::MAX]);
+            list[at] = random.any(&[50_000, -50_000, 50_001, -50_001, 10_001, i32::MIN, i32::MAX]);
         }
         // The fourth point in the plane of the first three.
         2 if list.len() >= 12 => {
-            (0..3).for_each(|i| list[9 + i] = (list[i] + list[3 + i] - list[6 + i]).clamp(-10_000, 10_000))
+            (0..3).for_each(|i| list[9 + i] = (list[i] + list[3 + i] - list[6 + i]).clamp(-50_000, 50_000))
         }
         _ => {}
     }

@@ -56,7 +56,7 @@ fn absent_or_repeated(numbers: &[usize], count: usize) -> bool {
 }
 
 pub fn far(coordinates: &[i32]) -> bool {
-    coordinates.iter().any(|x| !(-10_000..=10_000).contains(x))
+    coordinates.iter().any(|x| !(-50_000..=50_000).contains(x))
 }
 
 pub fn same_place(coordinates: &[i32]) -> bool {

@@ -2,7 +2,7 @@
 use mathlib.Core.Path.{_≡_, refl, sym}
 use mathlib.Core.Bool.{Bool, true, false, _||_, true≢false}
 use mathlib.Core.List.{List, [], _∷_}
-use Prim.Native.Nat.{ℕ, zero, suc, _+_, _*_, _≤_, _<_}
+use Prim.Native.Nat.{ℕ, zero, suc, _+_, _-_, _*_, _≤_, _<_}
 use native.Mathlib.Omega.{arith}
 use lib.ListN.{length, getD, drop}
 use lib.IntN.{ℤ, pos, negsuc, natAbs}
@@ -65,15 +65,19 @@ near-at (x ∷ cs) zero h = near-size x (neither (far x) (any-far cs) h .0)
 near-at (x ∷ cs) (suc i) h = near-at cs i (neither (far x) (any-far cs) h .1)
 
 -- ---- the test of one coordinate, and of a list from a place on
-pub far-below : (x : ℤ) → ltZ x (negsuc 9999) ≡ true → true ≡ far x
+-- the lower end of the range
+abbrev pub least-near : ℤ
+least-near = negsuc (furthest - 1)
+
+pub far-below : (x : ℤ) → ltZ x least-near ≡ true → true ≡ far x
 unfolding far
 far-below (pos n) h = absurd (true≢false (sym h))
-far-below (negsuc n) h = let k = ltb-true 9999 n h in sym (lt-ltb furthest (suc n) (omega arith))
+far-below (negsuc n) h = let k = ltb-true (furthest - 1) n h in sym (lt-ltb furthest (suc n) (omega arith))
 
-pub far-above : (x : ℤ) → ltZ x (negsuc 9999) ≡ false → ltZ (pos 10000) x ≡ far x
+pub far-above : (x : ℤ) → ltZ x least-near ≡ false → ltZ (pos furthest) x ≡ far x
 unfolding far
 far-above (pos n) h = refl
-far-above (negsuc n) h = let k = ltb-false 9999 n h in sym (le-ltb furthest (suc n) (omega arith))
+far-above (negsuc n) h = let k = ltb-false (furthest - 1) n h in sym (le-ltb furthest (suc n) (omega arith))
 
 module _ (cs : List ℤ) (i : ℕ) where
   pub far-here : i < length cs → far (getD cs i (pos 0)) ≡ true → true ≡ any-far (drop i cs)

@@ -1,17 +1,9 @@
--- How large the vectors made of points in range are, so that no machine sum or product wraps. Assumes nothing: these are definitions.
-use Prim.Native.Nat.{ℕ, _+_, _*_, _≤_}
+-- Vectors within a range of specs/Range, so that no machine sum or product wraps. Assumes nothing: these are definitions.
+use Prim.Native.Nat.{ℕ, _≤_}
 use lib.IntN.{natAbs}
 use Rattle.geometry.specs.Range.{furthest}
 use Rattle.geometry.specs.declared.vector.Vector.{Vector}
 use Rattle.geometry.specs.declared.tetrahedron.Corners.{Corners}
-
--- a coordinate of an edge
-abbrev pub longest : ℕ
-longest = furthest + furthest
-
--- a coordinate of a direction: a cross product of two edges
-abbrev pub widest : ℕ
-widest = longest * longest + longest * longest
 
 -- each coordinate at most n, either way
 pub record Bounded (n : ℕ) (v : Vector) : Type 0 where

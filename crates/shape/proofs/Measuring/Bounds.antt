@@ -10,10 +10,10 @@ use lib.IntN.{ℤ, pos, negsuc}
 use borrow.Author.Tests.{ltb-true, ltb-false, leb-true, leb-false}
 use Rattle.geometry.specs.Space.{Z, z, of, plus, minus, times, V3, v3, less, cross, dot, det, origin, points-in, point, D}
 use Rattle.geometry.specs.declared.tetrahedron.Four.{Four}
-use Rattle.geometry.specs.Range.{far, any-far, furthest}
-use Rattle.geometry.specs.inner.Bounded.{longest, widest}
+use Rattle.geometry.specs.Range.{far, any-far, furthest, longest, widest, deepest, Deepest-exact}
 use Rattle.shape.specs.Measure.{magnitude, D-of, S-of, square}
 use Rattle.geometry.proofs.Space.Points.{neither}
+use Rattle.geometry.proofs.Promises.{deepest-exact}
 
 -- ---- a signed number of magnitude at most n
 pub record Up-to (n : ℕ) (x : Z) : Type 0 where
@@ -114,31 +114,38 @@ point-up (x ∷ y ∷ w ∷ cs) (suc p) h =
     let b = neither (far y) (any-far (w ∷ cs)) (a .1) in
     let c = neither (far w) (any-far cs) (b .1) in point-up cs p (c .1)
 
--- ---- D and S are at most 2 ^ 53
+-- ---- how large D and S are, and that both are at most 2 ^ 53
 magnitude-up : (n : ℕ) (x : Z) → Up-to n x → magnitude x ≤ n
 unfolding magnitude
 magnitude-up n x p = let h = p .high in let l = p .low in omega arith
 
 module _ (cs : List ℤ) (f : Four) (far : any-far cs ≡ false) where
-  pub D-small : D-of (points-in cs) f ≤ 2 ^ 53
+  pub D-up : D-of (points-in cs) f ≤ deepest
   unfolding D-of D det
-  D-small =
+  D-up =
       let a = point-up cs (f .a) far in
       let b = point-up cs (f .b) far in
       let c = point-up cs (f .c) far in
       let d = point-up cs (f .d) far in
-      le-trans (magnitude-up _ _ (dot-up longest widest _ _ (less-up furthest _ _ b a) (cross-up longest longest _ _ (less-up furthest _ _ c a) (less-up furthest _ _ d a)))) (lit≤ tt)
+      magnitude-up _ _ (dot-up longest widest _ _ (less-up furthest _ _ b a) (cross-up longest longest _ _ (less-up furthest _ _ c a) (less-up furthest _ _ d a)))
+
+  pub D-small : D-of (points-in cs) f ≤ 2 ^ 53
+  unfolding Deepest-exact
+  D-small = le-trans D-up deepest-exact
 
   square-up : (p q : ℕ) → Up-to (longest * longest + widest) (square (point (points-in cs) p) (point (points-in cs) q))
   unfolding square
   square-up p q = let e = less-up furthest _ _ (point-up cs q far) (point-up cs p far) in dot-up longest longest _ _ e e
 
-  pub S-small : S-of (points-in cs) f ≤ 2 ^ 53
+  pub S-up : S-of (points-in cs) f ≤ 18 * (longest * longest)
   unfolding S-of
-  S-small =
-      le-trans (magnitude-up _ _
+  S-up =
+      magnitude-up _ _
       (plus-up _ _ _ _ (plus-up _ _ _ _ (plus-up _ _ _ _ (square-up (f .a) (f .b)) (square-up (f .a) (f .c))) (plus-up _ _ _ _ (square-up (f .a) (f .d)) (square-up (f .b) (f .c))))
-      (plus-up _ _ _ _ (square-up (f .b) (f .d)) (square-up (f .c) (f .d))))) (lit≤ tt)
+      (plus-up _ _ _ _ (square-up (f .b) (f .d)) (square-up (f .c) (f .d))))
+
+  pub S-small : S-of (points-in cs) f ≤ 2 ^ 53
+  S-small = le-trans S-up (lit≤ tt)
 
 -- ---- S is above 0 where D is: a sum of squares that is 0 has a first edge of no length
 square-value : (x : Z) → times x x .up ≡ times x x .down + magnitude x * magnitude x

@@ -1,6 +1,6 @@
 -- `shape::measure::square` meets its contract. Assumes nothing.
 use mathlib.Core.Path.{_∙_}
-use Rattle.geometry.specs.inner.Bounded.{longest}
+use Rattle.geometry.specs.Range.{longest}
 use Rattle.geometry.proofs.Numbers.Machine.{kept}
 use Rattle.geometry.proofs.Space.Vectors.{dot-size}
 use Rattle.shape.proofs.Measuring.Answers.{square-is-of}
