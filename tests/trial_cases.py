@@ -45,6 +45,26 @@ CASE_B = [
 EMPTY = ["empty;0;F,0,0,1000000;", "empty;1;F,0,0,1000000;"]
 
 
+def corner(name, x, z, inner, refusal):
+    """The corner of a cube with these sizes along x and z, its first face so many times an inner triangle: one trial fills it. Or the number that refuses it."""
+    triangles = [0, 2, 1, 0, 1, 3, 0, 3, 2, 1, 2, 3]
+    job = [0, 0, 0, x, 0, 0, 0, 50000, 0, 0, 0, z], triangles, [], triangles[:3] * inner, [1]
+    if refusal:
+        return name, job, [f"{name};1;R{refusal},0,0,0;"]
+    return name, job, [f"{name};0;S,0,0,0;", f"{name};1;F,1,1,1;0,1,2,3"]
+
+
+# At the limits of a job, and one beyond.
+AT_LIMITS = [
+    corner("corner-near", 50000, 50000, 0, 0),
+    corner("corner-near-below", -50000, -50000, 0, 0),
+    corner("corner-far", 50001, 50000, 0, 3),
+    corner("corner-far-below", 50000, -50001, 0, 3),
+    corner("corner-560", 1, 1, 560, 0),
+    corner("corner-561", 1, 1, 561, 22),
+]
+
+
 def is_cavity(name):
     return not name.startswith(("case-", "random-", "refused-"))
 
@@ -77,7 +97,7 @@ def job_line(name, job):
 def main(jobs, out):
     stored = (jobs / "slip-04" / "trials.txt").read_text().splitlines()
     groups = [(name, list(rows)) for name, rows in itertools.groupby(stored, key=lambda row: row.split(";")[0])]
-    played = [("empty", ([], [], [], [], []), EMPTY), ("case-b", read_job((jobs / "small" / "case-B.txt").read_text()), CASE_B)]
+    played = [("empty", ([], [], [], [], []), EMPTY), ("case-b", read_job((jobs / "small" / "case-B.txt").read_text()), CASE_B)] + AT_LIMITS
     for name, rows in groups:
         rows = within(rows) if name in CAVITIES else [] if is_cavity(name) else chosen(rows)
         if rows:

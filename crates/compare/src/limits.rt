@@ -3,8 +3,6 @@
 use crate::trial::judged;
 use crate::trial::searched;
 use crate::trial::trial;
-use crate::under_limits::under_limits;
-use crate::under_limits::with_refusal;
 use checker::check::check_job;
 use comparison::tally::with_comparison;
 use enumerator::read::byte_at;
@@ -137,7 +135,7 @@ const A: [u8; 12] = [0, 2, 1, 0, 1, 3, 0, 3, 2, 1, 2, 3];
 
 const CORNER: [u8; 4] = [0, 1, 2, 3];
 
-// A job, the number that the checker gives it, the trial of it, and the same under limits.
+// A job, the number that the checker gives it, and the trial of it.
 fn limit<'a, 'b>(
     points: &'a [i32],
     triangles: &'b [u8],
@@ -150,8 +148,7 @@ fn limit<'a, 'b>(
 ) -> Counts {
     let is_same = check_job(points, triangles, kept, inner, table) == number;
     let t = with_comparison(tally, is_same, 0, b"limit: job ");
-    let t2 = trial(0, points, triangles, kept, inner, table, chosen, t);
-    under_limits(0, points, triangles, kept, inner, table, t2)
+    trial(0, points, triangles, kept, inner, table, chosen, t)
 }
 
 // 1 for the fours of the list; the others stay as they are.
@@ -234,12 +231,12 @@ fn with_inner(len: usize, number: u32, tally: Counts) -> Counts {
     )
 }
 
-// The search of the corner of a cube into a buffer; where that is refused, the limited search too.
+// The search of the corner of a cube into a buffer.
 fn with_buffer(answer: &mut [u8], number: u32, worst: u32, list: &[u8], tally: Counts) -> Counts {
     let points = [0, 0, 0, 1, 0, 0, 0, 1, 0, 0, 0, 1];
     let triangles = A;
     let table = [592_592i32];
-    let t = searched(
+    searched(
         0,
         &points,
         &triangles,
@@ -251,11 +248,7 @@ fn with_buffer(answer: &mut [u8], number: u32, worst: u32, list: &[u8], tally: C
         list,
         answer,
         tally,
-    );
-    if number == 0 {
-        return t;
-    }
-    with_refusal(0, &points, &triangles, b"", b"", &table, number, answer, t)
+    )
 }
 
 // A buffer of 7,280 bytes is enough, one of 7,279 is not and stays as it is.

@@ -1,24 +1,19 @@
-// Compares the search, the judge, the checker and the limited search with a plain enumerator and with the laws and the rule of trials written anew: on the cavities of
-// document 01 that are not proved as a table, at the limit of the inner triangles, on the empty job, and on random jobs. How many jobs: the number on the one line of standard
-// input, 3,600 where that is empty. Prints how many there were of each kind, and how many comparisons differ. An argument, or an input that is no number, is refused on
-// standard error. Assumes nothing; any bytes may come.
+// Compares the search, the judge and the checker with a plain enumerator and with the laws written anew: on the cavities of document 01 that are not proved as a table, at the
+// limit of the inner triangles, on the empty job, and on random jobs. How many jobs: the number on the one line of standard input, 3,600 where that is empty. Prints how many
+// there were of each kind, and how many comparisons differ. An argument, or an input that is no number, is refused on standard error. Assumes nothing; any bytes may come.
+// The limited search is `compare_trials`' part.
 mod limits;
 mod trial;
-mod under_limits;
 
+use comparison::asked::jobs_asked;
 use comparison::tally::print_tally;
 use enumerator::enumerate::ROOM;
-use libc::STDERR_FILENO;
-use libc::STDIN_FILENO;
 use limits::with_limits;
 use lines::number::NONE;
-use lines::number::number;
 use lines::tally::Counts;
 use lines::tally::next;
 use lines::tally::print;
 use lines::tally::print_count;
-use lines::text::before;
-use lines::text::past;
 use random_jobs::boundary::put_boundary;
 use random_jobs::boundary::put_chosen;
 use random_jobs::damage::damage;
@@ -28,9 +23,6 @@ use random_jobs::kept::put_kept;
 use random_jobs::points::put_points;
 use random_jobs::table::put_table;
 use trial::trial;
-use under_limits::under_limits;
-
-const JOBS: u64 = 3_600;
 
 fn with_job(seed: u64, tally: Counts) -> Counts {
     let d = damage(seed);
@@ -47,8 +39,7 @@ fn with_job(seed: u64, tally: Counts) -> Counts {
     let mut g = [0u8; 1686];
     let hurt = inner_damage(seed, d);
     let inner = put_inner(seed, hurt, points.len() / 3, chosen, triangles, &mut g);
-    let t = trial(seed, points, triangles, kept, inner, table, chosen, tally);
-    under_limits(seed, points, triangles, kept, inner, table, t)
+    trial(seed, points, triangles, kept, inner, table, chosen, tally)
 }
 
 fn with_jobs(jobs: u64, tally: Counts) -> Counts {
@@ -59,17 +50,6 @@ fn with_jobs(jobs: u64, tally: Counts) -> Counts {
     t
 }
 
-// The number on the input's one line, a line end behind it or not.
-fn asked_for(input: &[u8]) -> u64 {
-    if input.len() == 0 {
-        return JOBS;
-    }
-    if past(input, 0, b'\n') < input.len() {
-        return NONE;
-    }
-    number(before(input, b'\n'), 10)
-}
-
 fn compare(jobs: u64) {
     print(b"seeds 1 to ");
     print_count(jobs, b"\n");
@@ -77,22 +57,8 @@ fn compare(jobs: u64) {
 }
 
 fn main() {
-    if 1 < os::arg_count() {
-        io::write_all(
-            STDERR_FILENO,
-            b"compare: it takes no argument; how many jobs is a number on standard input\n",
-        );
-        return;
+    let jobs = jobs_asked(b"compare");
+    if jobs != NONE {
+        compare(jobs);
     }
-    let mut input = io::buffer();
-    let n = io::read_full(STDIN_FILENO, &mut input);
-    let jobs = asked_for(&input[..n]);
-    if jobs == NONE {
-        io::write_all(
-            STDERR_FILENO,
-            b"compare: standard input is neither empty nor one number\n",
-        );
-        return;
-    }
-    compare(jobs);
 }

@@ -48,21 +48,22 @@ pub const LAWS: usize = 28;
 // Lists judged of refused jobs.
 pub const REFUSED: usize = 37;
 
-// Answers of the limited search: all, those that the limit stopped, by whether a filling was found, and the others.
-const LIMITED: usize = 38;
+const COMPARED: usize = 38;
 
-const SPENT_FILLED: usize = 39;
-
-const SPENT_UNFILLED: usize = 40;
-
-const UNSPENT: usize = 41;
-
-const COMPARED: usize = 42;
-
-const DIFFERENT: usize = 43;
+const DIFFERENT: usize = 39;
 
 // The most differences that are named.
 const NAMED: u64 = 10;
+
+// One more difference, of the job with this seed, counted at this place. The first ten are named.
+pub fn with_difference(tally: Counts, at: usize, seed: u64, what: &[u8]) -> Counts {
+    let all = tally.more(at);
+    if all.count(at) <= NAMED {
+        print(what);
+        print_count(seed, b" differs\n");
+    }
+    all
+}
 
 // One more comparison, of the job with this seed.
 pub fn with_comparison(tally: Counts, agrees: bool, seed: u64, what: &[u8]) -> Counts {
@@ -70,12 +71,7 @@ pub fn with_comparison(tally: Counts, agrees: bool, seed: u64, what: &[u8]) -> C
     if agrees {
         return t;
     }
-    let all = t.more(DIFFERENT);
-    if all.count(DIFFERENT) <= NAMED {
-        print(what);
-        print_count(seed, b" differs\n");
-    }
-    all
+    with_difference(t, DIFFERENT, seed, what)
 }
 
 // One more job, with the number that it is answered with.
@@ -94,21 +90,6 @@ pub fn with_answer(tally: Counts, number: u32, agrees: bool, seed: u64) -> Count
 pub fn with_skipped(tally: Counts) -> Counts {
     let t = tally.more(JOBS);
     t.more(SKIPPED)
-}
-
-// One more answer of the limited search.
-pub fn with_limited(
-    tally: Counts,
-    is_spent: bool,
-    is_found: bool,
-    agrees: bool,
-    seed: u64,
-) -> Counts {
-    let t = tally.more(LIMITED);
-    let a = t.more_if(is_spent & is_found, SPENT_FILLED);
-    let b = a.more_if(is_spent & !is_found, SPENT_UNFILLED);
-    let all = b.more_if(!is_spent, UNSPENT);
-    with_comparison(all, agrees, seed, b"limited search: job ")
 }
 
 // Whether some point is no corner of the boundary: the corners are gathered as bits.
@@ -153,7 +134,7 @@ pub fn print_tally(tally: Counts) {
         answered 12\n; answered 13\n; answered 14\n; answered 15\n; answered 22\n; answered 23\n; filled\n; with several lawful fillings\n; with several of the best worst quality\n; \
         filled with a point off the boundary\n; filled with kept edges\n; filled with inner triangles\n; filled in several components, of a tetrahedron each\n; filled around a void\n; accepted with \
         points over the whole range\n; answered 15 with inner triangles\n; skipped\n; lists judged lawful\n; lists judged to break law 1\n; lists judged to break law 2\n; lists judged to break law 3\n; lists judged to break \
-        law 4\n; lists judged to break law 5\n; lists judged to break law 6\n; lists judged to break law 7\n; lists judged to break law 8\n; lists judged of refused jobs\n; limited \
-        answers\n; spent with a filling\n; spent without one\n; unspent\n; compared, ; different\n;",
+        law 4\n; lists judged to break law 5\n; lists judged to break law 6\n; lists judged to break law 7\n; lists judged to break law 8\n; lists judged of refused jobs\n; compared, ; \
+        different\n;",
     );
 }

@@ -1,7 +1,7 @@
 // One job under several limits: the limited search against the rule of trials as `trial_rule` follows it.
+use crate::counts::with_answer;
 use comparison::buffer::is_written;
 use comparison::buffer::put_pattern;
-use comparison::tally::with_limited;
 use comparison::trial_limits::LIMITS;
 use comparison::trial_limits::limit_of;
 use enumerator::admission::refusal;
@@ -52,7 +52,7 @@ fn with_run<'a, 'b>(
     let limit = run.limit;
     let f = search_limited(points, triangles, kept, inner, table, limit, answer);
     let is_same = is_answer(f, number, run) & is_written(answer, list);
-    with_limited(tally, run.is_spent, run.is_found, is_same, seed)
+    with_answer(tally, run.is_spent, run.is_found, is_same, seed)
 }
 
 // The same for a job, or a buffer, that is refused with this number.

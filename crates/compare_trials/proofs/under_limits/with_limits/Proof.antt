@@ -1,8 +1,8 @@
--- `compare::under_limits::with_limits` is safe and ends. Assumes nothing.
+-- `compare_trials::under_limits::with_limits` is safe and ends. Assumes nothing.
 use Prim.Native.Nat.{_-_}
 use borrow.Author.Needs.{needs}
-use Rattle.compare.proofs.under_limits.with_limits.Statement.{statement}
-use Rattle.compare.proofs.under_limits.with_limits.Tie as tie
+use Rattle.compare_trials.proofs.under_limits.with_limits.Statement.{statement}
+use Rattle.compare_trials.proofs.under_limits.with_limits.Tie as tie
 
 abbrev Inv-loop : tie.InvT-loop
 Inv-loop seed points triangles kept inner table trials t₀ k₀ t k = Unit {0}
