@@ -1,19 +1,15 @@
-// Compares the search, the judge and the checker with a plain enumerator and with the laws written anew: on the cavities of document 01 that are not proved as a table, at the
-// limit of the inner triangles, on the empty job, and on random jobs. How many jobs: the number on the one line of standard input, 3,600 where that is empty. Prints how many
-// there were of each kind, and how many comparisons differ. An argument, or an input that is no number, is refused on standard error. Assumes nothing; any bytes may come.
-// The limited search is `compare_trials`' part.
-mod limits;
-mod trial;
-
+// Compares the search, the judge and the checker with a plain enumerator and with the laws written anew on random jobs. How many: the number on the one line of standard input,
+// 3,600 where that is empty. Prints how many there were of each kind, and how many comparisons differ. An argument, or an input that is no number, is refused on standard error.
+// Assumes nothing; any bytes may come. The jobs at the limits are `compare_limits`' part, the limited search is `compare_trials`'.
 use comparison::asked::jobs_asked;
 use comparison::tally::print_tally;
 use enumerator::enumerate::ROOM;
-use limits::with_limits;
 use lines::number::NONE;
 use lines::tally::Counts;
 use lines::tally::next;
 use lines::tally::print;
 use lines::tally::print_count;
+use one_job::trial::trial;
 use random_jobs::boundary::put_boundary;
 use random_jobs::boundary::put_chosen;
 use random_jobs::damage::damage;
@@ -22,7 +18,6 @@ use random_jobs::inner::put_inner;
 use random_jobs::kept::put_kept;
 use random_jobs::points::put_points;
 use random_jobs::table::put_table;
-use trial::trial;
 
 fn with_job(seed: u64, tally: Counts) -> Counts {
     let d = damage(seed);
@@ -53,7 +48,7 @@ fn with_jobs(jobs: u64, tally: Counts) -> Counts {
 fn compare(jobs: u64) {
     print(b"seeds 1 to ");
     print_count(jobs, b"\n");
-    print_tally(with_jobs(jobs, with_limits(Counts::new())));
+    print_tally(with_jobs(jobs, Counts::new()));
 }
 
 fn main() {

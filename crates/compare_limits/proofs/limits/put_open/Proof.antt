@@ -1,10 +1,10 @@
--- `compare::limits::put_open` is safe and ends. Assumes nothing.
+-- `compare_limits::limits::put_open` is safe and ends. Assumes nothing.
 use Prim.Native.Nat.{_-_}
 use mathlib.Core.Path.{_≡_}
 use lib.ListN.{length}
 use borrow.Author.Needs.{needs}
-use Rattle.compare.proofs.limits.put_open.Statement.{statement}
-use Rattle.compare.proofs.limits.put_open.Tie as tie
+use Rattle.compare_limits.proofs.limits.put_open.Statement.{statement}
+use Rattle.compare_limits.proofs.limits.put_open.Tie as tie
 
 abbrev Inv-loop : tie.InvT-loop
 Inv-loop n list out₀ i₀ i-end out i = length out ≡ length out₀

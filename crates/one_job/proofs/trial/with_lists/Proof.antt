@@ -1,8 +1,8 @@
--- `compare::trial::with_lists` is safe and ends. Assumes nothing.
+-- `one_job::trial::with_lists` is safe and ends. Assumes nothing.
 use Prim.Native.Nat.{_-_}
 use borrow.Author.Needs.{needs}
-use Rattle.compare.proofs.trial.with_lists.Statement.{statement}
-use Rattle.compare.proofs.trial.with_lists.Tie as tie
+use Rattle.one_job.proofs.trial.with_lists.Statement.{statement}
+use Rattle.one_job.proofs.trial.with_lists.Tie as tie
 
 abbrev Inv-loop : tie.InvT-loop
 Inv-loop seed points triangles kept inner table base pool t₀ way₀ way-end t way = Unit {0}

@@ -1,8 +1,5 @@
 // The cavities of document 01 that its table of proved ones leaves out: the greatest count of points, the greatest coordinate, the smallest buffer; and the greatest
 // count of inner triangles, and the empty job (document 02).
-use crate::trial::judged;
-use crate::trial::searched;
-use crate::trial::trial;
 use checker::check::check_job;
 use comparison::tally::with_comparison;
 use enumerator::read::byte_at;
@@ -13,6 +10,9 @@ use lines::list::front_integers;
 use lines::list::put;
 use lines::list::put_integer;
 use lines::tally::Counts;
+use one_job::trial::judged;
+use one_job::trial::searched;
+use one_job::trial::trial;
 use random_jobs::boundary::put_boundary;
 use random_jobs::damage::NOTHING;
 

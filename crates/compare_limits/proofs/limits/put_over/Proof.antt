@@ -1,8 +1,8 @@
--- `compare::limits::put_over` is safe and ends. Assumes nothing.
+-- `compare_limits::limits::put_over` is safe and ends. Assumes nothing.
 use Prim.Native.Nat.{_-_}
 use borrow.Author.Needs.{needs}
-use Rattle.compare.proofs.limits.put_over.Statement.{statement}
-use Rattle.compare.proofs.limits.put_over.Tie as tie
+use Rattle.compare_limits.proofs.limits.put_over.Statement.{statement}
+use Rattle.compare_limits.proofs.limits.put_over.Tie as tie
 
 abbrev Inv-loop : tie.InvT-loop
 Inv-loop triangles len out₀ i₀ out i = Unit {0}
