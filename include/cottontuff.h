@@ -41,7 +41,8 @@ int main(void) {
  *   COTTONTUFF_FURTHEST is 50000: who tests coordinates against it before a call compiles anew, or goes on refusing what the library takes. A value of the bench with such a coordinate held no mesh, and may hold one now.
  * - 1.4.0: cottontuff_search_limited.
  * - 1.2.0: the empty job has a filling. It was refused with 2.
- * - 1.1.0: the functions that end in _inner, and numbers 22 and 23, which only they give. */
+ * - 1.1.0: the functions that end in _inner, and numbers 22 and 23; cottontuff_print reads K lines.
+ * - 1.0.1: cottontuff_measure_table and COTTONTUFF_VERSION. */
 #ifndef COTTONTUFF_H
 #define COTTONTUFF_H
 
