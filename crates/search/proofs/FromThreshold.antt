@@ -43,7 +43,7 @@ from-one {j} {r} {a} {b} s = go (ℕ-discrete (r .number) 0)
     go (yes e) = s .found e
     go (no n) =
         let w = s .none-there n in
-        searched-none {W = []} (record { order = omega arith; small = omega arith; found = λ h. absurd (omega arith); top = w .2 .each }) (w .0) (w .1)
+        searched-none {W = []} (record { order = omega arith; small = omega arith; found = λ h. absurd (omega arith); top = λ F l u. w .2 .each F l }) (w .0) (w .1)
 
 -- ---- the first filling found at the threshold
 pub attempt-highest :

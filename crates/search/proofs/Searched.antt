@@ -15,7 +15,8 @@ use Rattle.laws.proofs.Choice.Empty.{empty-filling, empty-worst}
 use Rattle.search.specs.Entry.{in-front, says, Searched}
 use Rattle.search.specs.inner.Fixed.{Answers-empty}
 use Rattle.search.specs.declared.search.Found.{Found}
-use Rattle.fillings.proofs.Choice.Bisection.{Bounds, bounds-none-lawful}
+use Rattle.fillings.specs.Bounds.{Any-filling, Bounds}
+use Rattle.fillings.proofs.Choice.Bisection.{bounds-none-lawful}
 
 pub searched-best :
     {j : Job} {r : Found} {N : List Four} {a b : List ℕ} → Best j N → says 0 (length N) (worst j N) r → b ≡ in-front (bytes N) a → Searched j r a b
@@ -28,7 +29,7 @@ searched-best {j} {r} {N} {a} {b} h s e =
     }
 
 pub searched-none :
-    {j : Job} {W : List Four} {r : Found} {a b : List ℕ} → Bounds j 0 1 W → says 15 0 0 r → b ≡ a → Searched j r a b
+    {j : Job} {W : List Four} {r : Found} {a b : List ℕ} → Bounds j Any-filling 0 1 W → says 15 0 0 r → b ≡ a → Searched j r a b
 searched-none h s e = record { found = λ F k. contradiction (k .keeps) (bounds-none-lawful h F); none-there = λ n. (s, e) }
 
 -- the empty job: nothing is written

@@ -109,7 +109,7 @@ module _ {L : Lists} {fours codes bound : List ℕ} {m : ℕ} (x : Context L fou
     pub committed-start : {ss : List ℕ} → Alive-from qualities m q ss → Committed (job L) q (fours-in m fours) ms ss 0
     committed-start {ss} s =
         let t = alive-started (h .whole .filed) s in
-        let b = highest-bounds (x .accepted) h in
+        let b = highest-bounds h in
         record {
           first = first-begin (context-boundary x) (x .pool) (h .whole .covers) (le-refl q) (h .positive) b t;
           ready = alive-ready (h .whole .filed) s;
@@ -119,7 +119,7 @@ module _ {L : Lists} {fours codes bound : List ℕ} {m : ℕ} (x : Context L fou
 
     pub committed-ended : {ws ss : List ℕ} → Committed (job L) q (fours-in m fours) ws ss m → Best (job L) (marked 2 (fours-in m fours) ws)
     committed-ended {ws} {ss} c =
-        best-passed (fours-in m fours) ss (context-boundary x) (le-refl (suc q)) (highest-bounds (x .accepted) h)
+        best-passed (fours-in m fours) ss (context-boundary x) (le-refl (suc q)) (highest-bounds h)
         (λ i l. c .passed i (subst (λ (n : ℕ). i < n) (context-count x) l)) (c .first)
 
     -- what is committed is a filling: there is no other
@@ -131,5 +131,5 @@ module _ {L : Lists} {fours codes bound : List ℕ} {m : ℕ} (x : Context L fou
         let j = job L in
         let S = marked 2 (fours-in m fours) ns in
         let f = z .done e in
-        first-best (bounds-end (le-refl (suc q)) (highest-bounds (x .accepted) h))
+        first-best (λ F l. bounds-end (highest-bounds h) (le-refl (suc q)) F l tt)
         (λ F g. sym (subset-filling-equal j S F (context-boundary x) (f .keeps) (g .keeps) (g .holds)) ∙ subset-filling-equal j S (marked 2 (fours-in m fours) ws) (context-boundary x) (f .keeps) (i .witness .keeps) (i .witness .holds)) i

@@ -21,7 +21,7 @@ is-some : {A : Type 0} → Option A → Bool
 is-some none = false
 is-some (some x) = true
 
-none-not-some : {A B : Type 0} {x : A} → none ≡ some x → B
+pub none-not-some : {A B : Type 0} {x : A} → none ≡ some x → B
 unfolding is-some
 none-not-some e = contradiction (ap is-some e) refl
 

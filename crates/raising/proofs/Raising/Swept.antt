@@ -33,7 +33,7 @@ not-two true e = omega arith
 not-two false e = omega arith
 
 module _ {L : Lists} {fours codes bound : List ℕ} {m : ℕ} (x : Context L fours codes bound m) where
-  none-set : {qualities : List ℕ} {q : ℕ} {ms : List ℕ} → Alive-from qualities m q ms → (f : Four) → In f (marked 2 (fours-in m fours) ms) → ⊥
+  pub none-set : {qualities : List ℕ} {q : ℕ} {ms : List ℕ} → Alive-from qualities m q ms → (f : Four) → In f (marked 2 (fours-in m fours) ms) → ⊥
   none-set {qualities} {q} {ms} s f k =
       let r = marked-number 2 (fours-in m fours) ms k in
       not-two (leb q (getD qualities (r .number) 0)) (sym (s .each (r .number) (subst (λ (n : ℕ). r .number < n) (context-count x) (r .below))) ∙ r .mark)

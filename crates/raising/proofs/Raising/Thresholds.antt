@@ -100,15 +100,15 @@ pub whole-above :
     Whole L p fours codes qualities m
 whole-above l w = record { filed = w .filed; covers = record { member = λ F k h. w .covers .member F k (le-trans l h) } }
 
--- where nothing fills between the marks at q every lawful filling is worse
+-- where nothing with a property fills between the marks at q every lawful filling that has it is worse
 pub none-from :
-    {j : Job} {cs : List Four} {p q : ℕ} {ms : List ℕ} → Boundary (j .triangles) → Pool j cs → Covers j p cs → p ≤ q → q ≤ 1000000 → Started j cs q ms →
-    ((F : List Four) → Fills j cs ms F → ⊥) → (F : List Four) → lawful j F ≡ true → worst j F < q
-none-from {j} {q = q} b c v l h s none F k = go (decLt (worst j F) q)
+    {j : Job} {P : List Four → Type 0} {cs : List Four} {p q : ℕ} {ms : List ℕ} → Boundary (j .triangles) → Pool j cs → Covers j p cs → p ≤ q → q ≤ 1000000 → Started j cs q ms →
+    ((F : List Four) → Fills j cs ms F → P F → ⊥) → (F : List Four) → lawful j F ≡ true → P F → worst j F < q
+none-from {j} {q = q} b c v l h s none F k u = go (decLt (worst j F) q)
   where
     go : Dec (worst j F < q) → worst j F < q
     go (yes p) = p
-    go (no p) = absurd (none F (started-into c s l h v F (extension-start j q F b k (omega arith))))
+    go (no p) = absurd (none F (started-into c s l h v F (extension-start j q F b k (omega arith))) u)
 
 -- what fills between them is lawful and of that quality
 pub found-from :
