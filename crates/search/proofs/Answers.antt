@@ -13,11 +13,11 @@ use Rattle.laws.specs.Check.{job, job-refusal}
 use Rattle.search.specs.Entry.{or-else, says, Searched, Search-as, Search-says}
 use Rattle.search.specs.declared.search.Found.{Found}
 
-or-else-refused : (a b : ℕ) → (a ≡ 0 → ⊥) → or-else a b ≡ a
+pub or-else-refused : (a b : ℕ) → (a ≡ 0 → ⊥) → or-else a b ≡ a
 unfolding or-else
 or-else-refused a b n = ap (λ (t : Bool). cond t b a) (ne-eqb a 0 n)
 
-or-else-passed : (a b : ℕ) → a ≡ 0 → or-else a b ≡ b
+pub or-else-passed : (a b : ℕ) → a ≡ 0 → or-else a b ≡ b
 unfolding or-else
 or-else-passed a b e = ap (λ (t : Bool). cond t b a) (eq-eqb a 0 e)
 

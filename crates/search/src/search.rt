@@ -195,7 +195,7 @@ pub(crate) fn search_tables<'a>(
 }
 
 // What makes a search quick and has no say in its answer: the chains of owners, and whether anything may lie off the boundary.
-pub(crate) fn fill_hints(
+pub fn fill_hints(
     lists: &[&[u8]; 3],
     ints: &[&[i32]; 2],
     codes: &[u16],
@@ -295,7 +295,7 @@ pub(crate) fn search_from(
 }
 
 // The best filling from all candidates, given by their fours, codes and qualities: from an upper bound on, and from 1 on where that finds nothing.
-pub(crate) fn search_candidates(
+pub fn search_candidates(
     lists: &[&[u8]; 3],
     ints: &[&[i32]; 2],
     faces: &[[u16; 4096]; 3],
