@@ -1,8 +1,6 @@
 // What was compared, by the kind of answer, so that nobody can take an empty run for a pass.
 use comparison::tally::with_difference;
 use lines::tally::Counts;
-use lines::tally::print;
-use lines::tally::print_count;
 
 // Where is counted, in the order in which the counts are printed: answers, those that the limit stopped, by whether a filling was found, and the others.
 const ANSWERS: usize = 0;
