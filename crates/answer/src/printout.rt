@@ -22,7 +22,8 @@ pub struct JobArrays {
     pub table: [i32; 1820],
 }
 
-fn read_arrays(text: &[u8]) -> JobArrays
+// The lists of a text, for every answer that is given by them.
+pub fn read_arrays(text: &[u8]) -> JobArrays
     ensures { λ r. ⌜ Job-read (now (text .entry)) (r .read) (arrays r) ⌝ }
 {
     let mut points: [i32; 51] = [0; 51];

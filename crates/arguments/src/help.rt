@@ -1,18 +1,30 @@
-// What the program says of itself. The version is that of the library: `VERSION` of the Makefile (tests/options compares them).
+// What the program cavity says of itself, and the version that every program has: that of the library, `VERSION` of the Makefile (tests/options and tests/why compare them).
+use libc::STDERR_FILENO;
 use streams::output::write_output;
 
-fn print(text: &[u8]) {
+fn say_unwritten(program: &[u8]) {
+    io::write_all(STDERR_FILENO, program);
+    os::fail(b": the text was not written to its end");
+}
+
+// Writes what a program says of itself.
+pub fn print(program: &[u8], text: &[u8]) {
     if !write_output(text) {
-        os::fail(b"cavity: the text was not written to its end");
+        say_unwritten(program);
     }
 }
 
-pub fn print_version() {
-    print(b"cavity 1.5.0\n");
+pub fn print_version(program: &[u8]) {
+    if !write_output(program) {
+        say_unwritten(program);
+        return;
+    }
+    print(program, b" 1.6.0\n");
 }
 
 pub fn print_help() {
     print(
+        b"cavity",
         b"Usage: cavity [OPTION..] [FILE]\n\
 Fills a hole in a tetrahedral mesh with the tetrahedra whose worst quality is best.\n\
 Reads one job from FILE, or from standard input where no FILE is named or FILE is -,\n\

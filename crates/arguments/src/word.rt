@@ -25,7 +25,7 @@ fn begins_with_minus(word: &[u8]) -> bool
 }
 
 // What a word is, before `--`.
-pub(crate) fn word_in(word: &[u8]) -> Word
+pub fn word_in(word: &[u8]) -> Word
     ensures { λ r. ⌜ Reads-as (now (word .entry)) r ⌝ }
 {
     if check::same(word, b"--words") {

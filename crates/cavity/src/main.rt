@@ -22,7 +22,7 @@ fn print_answer(text: &[u8], words: bool) {
         return;
     }
     if words & (output[0] == b'R') {
-        say_refusal(text);
+        say_refusal(b"cavity", text);
     }
 }
 
@@ -32,7 +32,7 @@ fn run(o: Options) {
     let mut input = [0u8; 65537];
     let file = o.file;
     let words = o.words;
-    match read_source(file, &mut input) {
+    match read_source(b"cavity", file, &mut input) {
         Input::Whole(n) => print_answer(&input[..n], words),
         Input::Broken => {}
     }
@@ -42,9 +42,13 @@ fn main() {
     match asked() {
         Plan::Run(o) => run(o),
         Plan::Help => print_help(),
-        Plan::Version => print_version(),
-        Plan::Unknown(i) => complain(i, b": no such option; cavity --help lists them\n"),
-        Plan::Second(i) => complain(i, b": a second file; one job is read\n"),
+        Plan::Version => print_version(b"cavity"),
+        Plan::Unknown(i) => complain(
+            b"cavity",
+            i,
+            b": no such option; cavity --help lists them\n",
+        ),
+        Plan::Second(i) => complain(b"cavity", i, b": a second file; one job is read\n"),
         Plan::Unread(_) => os::fail(b"cavity: an argument was not read"),
     }
 }

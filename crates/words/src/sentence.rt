@@ -47,10 +47,11 @@ fn sentence(text: &[u8]) -> [usize; 5] {
     }
 }
 
-// Says on standard error why the text is refused, and where: number 15 where its lists are not.
+// Says on standard error, behind the program's name, why the text is refused, and where: number 15 where its lists are not.
 // In the words %n stands for a value, %L for the line that a value numbers, and %P, %T, %E, %K, %Q for one of that kind.
-pub fn say_refusal(text: &[u8]) {
-    io::write_all(STDERR_FILENO, b"cavity: refused with ");
+pub fn say_refusal(program: &[u8], text: &[u8]) {
+    io::write_all(STDERR_FILENO, program);
+    io::write_all(STDERR_FILENO, b": refused with ");
     put_part(
         text,
         b"15: no lawful filling exists\n|\

@@ -5,10 +5,14 @@ use crate::line::put_clipped;
 use libc::STDERR_FILENO;
 use parsing::field::find;
 
-// Writes what a mark stands for: the value, or the line of that number among those of its kind, or among all.
+// Writes what a mark stands for: the value, or the text itself, or its line of that number among those of its kind, or among all.
 fn put_mark(text: &[u8], mark: u8, v: usize) {
     if mark == b'n' {
         io::print_decimal(STDERR_FILENO, v as u64);
+        return;
+    }
+    if mark == b'V' {
+        put_clipped(text);
         return;
     }
     let l = nth_line(text, find(b"PTEKQ", 0, mark), v);

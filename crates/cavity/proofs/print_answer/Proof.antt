@@ -35,6 +35,9 @@ returns c = tt
 array-read-if2 : tie.Need-array-read-if2
 array-read-if2 c = omega arith
 
+slice-aggregate-say-refusal : tie.Need-slice-aggregate-say-refusal
+slice-aggregate-say-refusal c = refl
+
 say-refusal-requires : tie.Need-say-refusal-requires
 say-refusal-requires c κs = tt
 
@@ -57,6 +60,7 @@ print-answer-spec =
     fail-requires
     returns
     array-read-if2
+    slice-aggregate-say-refusal
     say-refusal-requires
     returns-2
     returns-3)

@@ -1,6 +1,6 @@
 -- `cavity::run` is safe and ends: what it answers is the front of its buffer. Assumes nothing.
 use Rattle.streams.proofs.Calls.{whole-counts}
-use mathlib.Core.Path.{sym}
+use mathlib.Core.Path.{refl, sym}
 use Prim.Native.Nat.{ℕ}
 use lib.ListN.{length-replicate}
 use borrow.Author.Needs.{needs}
@@ -8,7 +8,10 @@ use Rattle.cavity.proofs.run.Statement.{statement}
 use Rattle.cavity.proofs.run.Tie as tie
 
 slice-aggregate-read-source : tie.Need-slice-aggregate-read-source
-slice-aggregate-read-source c = sym (length-replicate {A = ℕ} 65537 0)
+slice-aggregate-read-source c = refl
+
+slice-aggregate-read-source-2 : tie.Need-slice-aggregate-read-source-2
+slice-aggregate-read-source-2 c = sym (length-replicate {A = ℕ} 65537 0)
 
 read-source-requires : tie.Need-read-source-requires
 read-source-requires c κs = tt
@@ -39,6 +42,7 @@ run-spec =
     tie.close
     (tie.spec
     slice-aggregate-read-source
+    slice-aggregate-read-source-2
     read-source-requires
     enum-known-n
     array-share-prefix-input

@@ -6,6 +6,9 @@ use Rattle.arguments.proofs.help.print_help.Tie as tie
 slice-aggregate-print : tie.Need-slice-aggregate-print
 slice-aggregate-print c = refl
 
+slice-aggregate-print-2 : tie.Need-slice-aggregate-print-2
+slice-aggregate-print-2 c = refl
+
 print-requires : tie.Need-print-requires
 print-requires c κs = tt
 
@@ -13,4 +16,4 @@ returns : tie.Need-returns
 returns c = tt
 
 pub print-help-spec : {M : Type 1} → statement M
-print-help-spec = tie.close (tie.spec slice-aggregate-print print-requires returns)
+print-help-spec = tie.close (tie.spec slice-aggregate-print slice-aggregate-print-2 print-requires returns)

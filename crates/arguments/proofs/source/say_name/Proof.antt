@@ -12,10 +12,10 @@ front-long : (n : ℕ) (l : List ℕ) → n ≤ length l → n ≡ length (take 
 front-long n l h = let e = length-take n l in omega (arith, e, h)
 
 abbrev Inv-loop : tie.InvT-loop
-Inv-loop name out₀ i₀ t5 out i = length out ≡ 4096
+Inv-loop program name out₀ i₀ t5 out i = length out ≡ 4096
 
 abbrev μ-loop : tie.MeasureT-loop
-μ-loop name out₀ i₀ t5 out i = 4096 - i
+μ-loop program name out₀ i₀ t5 out i = 4096 - i
 
 loop-holds : tie.Need-loop-holds Inv-loop μ-loop
 loop-holds c = omega arith
@@ -35,11 +35,14 @@ loop-less c = omega arith
 loop-again : tie.Need-loop-again Inv-loop μ-loop
 loop-again c = search needs
 
+write-all-requires : tie.Need-write-all-requires Inv-loop μ-loop
+write-all-requires c κs = tt
+
 slice-aggregate-write-all : tie.Need-slice-aggregate-write-all Inv-loop μ-loop
 slice-aggregate-write-all c = search needs
 
-write-all-requires : tie.Need-write-all-requires Inv-loop μ-loop
-write-all-requires c κs = tt
+write-all-requires-2 : tie.Need-write-all-requires-2 Inv-loop μ-loop
+write-all-requires-2 c κs = tt
 
 returns : tie.Need-returns Inv-loop μ-loop
 returns c = tt
@@ -50,8 +53,8 @@ array-share-prefix-out c = omega arith
 slice-aggregate-write-all-2 : tie.Need-slice-aggregate-write-all-2 Inv-loop μ-loop
 slice-aggregate-write-all-2 c = front-long _ _ (omega arith)
 
-write-all-requires-2 : tie.Need-write-all-requires-2 Inv-loop μ-loop
-write-all-requires-2 c κs = tt
+write-all-requires-3 : tie.Need-write-all-requires-3 Inv-loop μ-loop
+write-all-requires-3 c κs = tt
 
 returns-2 : tie.Need-returns-2 Inv-loop μ-loop
 returns-2 c = tt
@@ -68,10 +71,11 @@ say-name-spec =
     add-i
     loop-less
     loop-again
-    slice-aggregate-write-all
     write-all-requires
+    slice-aggregate-write-all
+    write-all-requires-2
     returns
     array-share-prefix-out
     slice-aggregate-write-all-2
-    write-all-requires-2
+    write-all-requires-3
     returns-2)
