@@ -2,18 +2,18 @@
 RT = rt
 PREFIX = /usr/local
 CFLAGS = -O2 -Wall -Wextra
-VERSION = 1.5.0
+VERSION = 1.6.0
 SONAME = libcottontuff.so.1
 library = target/staticlib/libcottontuff.a
 shared = target/lib/libcottontuff.so.$(VERSION)
 package = cottontuff-$(VERSION)-x86_64-linux
 # rt's names have no hyphen; installed, cavity_measure is cavity-measure.
-programs = cavity cavity_measure cavity_bench
+programs = cavity cavity_why cavity_measure cavity_bench
 installed = $(subst _,-,$(programs))
 # rt proves its crate anew at each call, so it is called only where a source is newer.
 sources = crates.txt $(shell find crates -name '*.rt' -o -name '*.antt')
 
-all: $(library) $(shared) target/cottontuff.pc $(programs:%=target/bin/%) target/examples/bench-session target/examples/limited
+all: $(library) $(shared) target/cottontuff.pc $(programs:%=target/bin/%) target/examples/bench-session target/examples/limited target/examples/explain
 
 help:
 	@echo 'make             the library, static and shared, target/cottontuff.pc, the programs, the examples in C'

@@ -29,7 +29,7 @@ int main(void) {
  *   1 2 3 4
  *
  * What holds for every function
- * - It takes any lists and answers: a filling, a verdict, or one of the numbers below; cottontuff_search_limited also that its limit is spent. Nothing need be looked at first.
+ * - It takes any lists and answers: a filling, a verdict, a reason, or one of the numbers below; cottontuff_search_limited also that its limit is spent. Nothing need be looked at first.
  * - The caller owns all memory. Nothing is allocated, freed or kept; there is no state between calls, so threads may call at the same time.
  * - A list is a pointer and its count of elements (not of points or triangles). With count 0 the pointer may be anything, also NULL.
  *   A list may not overlap a buffer that is written to.
@@ -37,6 +37,7 @@ int main(void) {
  * - Stack: see COTTONTUFF_STACK_BYTES below.
  *
  * What changed, for a program written for an older version. No symbol was taken away and no struct changed, so that it links as it is.
+ * - 1.6.0: cottontuff_explain, and number 24, which it alone gives.
  * - 1.5.0: coordinates reach from -50,000 to 50,000. They reached from -10,000 to 10,000: who relinks gets an answer where a coordinate beyond that got 3, from every function that takes coordinates.
  *   COTTONTUFF_FURTHEST is 50000: who tests coordinates against it before a call compiles anew, or goes on refusing what the library takes. A value of the bench with such a coordinate held no mesh, and may hold one now.
  * - 1.4.0: cottontuff_search_limited.
@@ -53,7 +54,7 @@ int main(void) {
 extern "C" {
 #endif
 
-#define COTTONTUFF_VERSION "1.5.0"
+#define COTTONTUFF_VERSION "1.6.0"
 
 /* ---- sizes of a job */
 #define COTTONTUFF_LEAST_POINTS 4                              /* or none at all, with every other list empty: the empty job */
@@ -77,13 +78,14 @@ extern "C" {
 #define COTTONTUFF_BENCH_POINTS 64
 #define COTTONTUFF_BENCH_TETS 256
 
-/* A stack for cottontuff_search, cottontuff_search_inner, cottontuff_search_limited, cottontuff_print and cottontuff_bench_replace. Each level of the search's recursion sets a tetrahedron, and no more than 280 can be set at once: the second is
+/* A stack for cottontuff_search, cottontuff_search_inner, cottontuff_search_limited, cottontuff_explain, cottontuff_print and cottontuff_bench_replace. Each level of the search's recursion sets a tetrahedron, and no more than 280 can be set at once: the second is
  * proved. A level takes at most 656 bytes, read off the library, and 481,528 was the deepest that was measured, levels included (docs/BENCHMARKS.md): the compiler's part is not proved.
- * The limited search has a recursion of its own, of at most 280 levels too, which is proved: 576 bytes a level, and 78,208 was the deepest that was measured. */
+ * The limited search has a recursion of its own, of at most 280 levels too, which is proved: 576 bytes a level, and 78,208 was the deepest that was measured.
+ * An explanation goes down into the search's recursion: 463,896 was the deepest that was measured. */
 #define COTTONTUFF_STACK_BYTES (768 * 1024)
 
 /* ---- what is answered: of the numbers that apply, the one whose place comes first, whatever its size.
- * The places of a job's numbers: 1; 2 to 10; 22; 23; 11; 12; 13; 14; 15. */
+ * The places of a job's numbers: 1; 2 to 10; 22; 23; 11; 12; 13; 14 (where a buffer is lent) or 24 (where a four is asked about); 15. */
 enum cottontuff_number {
     COTTONTUFF_DONE = 0,
     COTTONTUFF_BAD_TEXT = 1,         /* printout: over 65,536 bytes, or not of the form */
@@ -102,6 +104,7 @@ enum cottontuff_number {
     COTTONTUFF_BAD_ENTRY = 12,       /* an entry below -1 or above 1,000,000 */
     COTTONTUFF_UNMEASURED = 13,      /* a solid four has entry -1: measure it. It is not barred; 0 bars. */
     COTTONTUFF_SHORT_BUFFER = 14,    /* the search's buffer is under 7,280 bytes */
+    COTTONTUFF_BAD_FOUR = 24,        /* explain: the four is not increasing or names an absent point */
     COTTONTUFF_NO_FILLING = 15,      /* no lawful filling exists: proved, not given up */
     COTTONTUFF_NOT_TWELVE = 16,      /* measuring: not twelve coordinates */
     COTTONTUFF_TET_COUNT = 17,       /* mesh: not 1 to 256 tetrahedra, or length no multiple of 4 */
@@ -194,6 +197,32 @@ typedef struct {
 cottontuff_limited cottontuff_search_limited(const int32_t *points, size_t points_len, const uint8_t *triangles, size_t triangles_len,
                                              const uint8_t *kept, size_t kept_len, const uint8_t *inner, size_t inner_len,
                                              const int32_t *table, size_t table_len, uint32_t limit, uint8_t *answer, size_t answer_len);
+
+/* ---- the explanation: why the search's answer does not have a four
+ * A reason is a fact about all lawful fillings of the job, with its kept edges and inner triangles, and not about how a search went: it is the same on every machine. "The answer" is the filling of cottontuff_search_inner.
+ * Of the reasons that are true the first is given, so that each four has one. */
+enum cottontuff_reason {
+    COTTONTUFF_IN_ANSWER = 1,           /* the answer has it */
+    COTTONTUFF_FLAT = 2,                /* its four points lie in one plane (also where its entry is 0) */
+    COTTONTUFF_BARRED = 3,              /* its entry in the table is 0 */
+    COTTONTUFF_POINT_INSIDE = 4,        /* a point lies strictly inside it; value: the number of the lowest such point */
+    COTTONTUFF_NO_FILLING_HOLDS_IT = 5, /* for any other cause no lawful filling has it: a face against the boundary, a kept edge or an inner triangle in the way, no room for the rest */
+    COTTONTUFF_LOWER = 6,               /* some have it, and each of them has a lower worst quality than the answer; value: the best of theirs, in millionths */
+    COTTONTUFF_LATER = 7                /* some that have it are as good as the answer, and stand later in the order of lists; none is better */
+};
+
+typedef struct {
+    uint32_t number; /* 0; or 2 to 13, 15, 22, 23 or 24, and then the rest is 0 */
+    uint32_t reason; /* 1 to 7, an enum cottontuff_reason */
+    uint32_t value;  /* with 4 the point, from 0 on; with 6 the quality, in millionths; else 0 */
+} cottontuff_explanation;
+
+/* Why the four of the points a < b < c < d is not in the answer. The four comes as four numbers, which may be any: 256 or 4,294,967,295 is an absent point like any other.
+ * The numbers by their places: 2 to 10; 22; 23; 11; 12; 13, as cottontuff_check_inner gives them; 24, for a bad four; 15, for a job without a lawful filling. The empty job has no points: every four is 24.
+ * No buffer is lent, so 14 is never given; nothing is written. Each call searches the job, and for reasons 5 to 7 looks for the fillings that hold the four besides. */
+cottontuff_explanation cottontuff_explain(const int32_t *points, size_t points_len, const uint8_t *triangles, size_t triangles_len,
+                                          const uint8_t *kept, size_t kept_len, const uint8_t *inner, size_t inner_len,
+                                          const int32_t *table, size_t table_len, uint32_t a, uint32_t b, uint32_t c, uint32_t d);
 
 /* ---- measuring */
 typedef struct {

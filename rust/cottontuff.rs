@@ -1,9 +1,9 @@
 //! Cottontuff, the cavity kernel, for Rust: the functions of include/cottontuff.h behind safe ones. The field names and numbers are those of documents 01 and 02.
 //!
 //! `rt staticlib cottontuff` writes target/staticlib/libcottontuff.a; then `rustc -L native=target/staticlib` links a crate that has this file as a module.
-//! Every function takes any lists and answers: a filling, a verdict, or a `Number`; `search_limited` also that its limit is spent. Nothing here panics on
+//! Every function takes any lists and answers: a filling, a verdict, a `Reason`, or a `Number`; `search_limited` also that its limit is spent. Nothing here panics on
 //! an input, and a refusal changes no lent byte.
-//! The searches, the printout and `Bench::replace` want a thread with 768 KB of stack; threads of std have 2 MB.
+//! The searches, `explain`, the printout and `Bench::replace` want a thread with 768 KB of stack; threads of std have 2 MB.
 //!
 //! ```
 //! use cottontuff::{search, Job, Number};
@@ -65,6 +65,15 @@ pub mod c {
         pub count: u32,
         pub worst: u32,
         pub trials: u32,
+    }
+
+    /// `number`: 0, or 2 to 13, 15, 22, 23 or 24, and then the rest is 0. `reason`: 1 to 7. `value`: with 4 the point, with 6 the quality, else 0.
+    #[repr(C)]
+    #[derive(Clone, Copy, Debug, PartialEq, Eq)]
+    pub struct Explanation {
+        pub number: u32,
+        pub reason: u32,
+        pub value: u32,
     }
 
     /// `number`: 0, or 3 or 16, and then the rest is 0. `flat`: 1 or 0; where it is 1, `d`, `shape` and `millionths` are 0.
@@ -180,6 +189,22 @@ pub mod c {
             answer: *mut u8,
             answer_len: usize,
         ) -> Limited;
+        pub fn cottontuff_explain(
+            points: *const i32,
+            points_len: usize,
+            triangles: *const u8,
+            triangles_len: usize,
+            kept: *const u8,
+            kept_len: usize,
+            inner: *const u8,
+            inner_len: usize,
+            table: *const i32,
+            table_len: usize,
+            a: u32,
+            b: u32,
+            c: u32,
+            d: u32,
+        ) -> Explanation;
         pub fn cottontuff_measure(coordinates: *const i32, coordinates_len: usize) -> Measured;
         pub fn cottontuff_measure_table(
             points: *const i32,
@@ -207,7 +232,7 @@ pub mod c {
 }
 
 /// Why something is refused: the papers' number. It displays as their words. Of the numbers that apply the one whose place comes first is given;
-/// the places of a job's numbers are 1; 2 to 10; 22; 23; 11; 12; 13; 14; 15. The order of this type is by size.
+/// the places of a job's numbers are 1; 2 to 10; 22; 23; 11; 12; 13; 14 or 24; 15. The order of this type is by size.
 #[derive(Clone, Copy, Debug, PartialEq, Eq, PartialOrd, Ord, Hash)]
 pub struct Number(pub u32);
 
@@ -254,6 +279,7 @@ numbers! {
     NO_SUCH_TET = 20, "open: no such tetrahedron";
     INNER_COUNT = 22, "over 560 inner triangles, or length no multiple of 3";
     BAD_INNER = 23, "inner triangle with an absent or repeated point";
+    BAD_FOUR = 24, "explain: the four is not increasing or names an absent point";
     NO_MESH = 31, "open, grow, replace, close: no mesh loaded";
     CAVITY_OPEN = 32, "load, open: a cavity is open";
     NO_CAVITY = 33, "grow, replace, close: none is open";
@@ -338,6 +364,40 @@ pub struct Limited {
     pub ending: Ending,
     pub filling: Option<Filling>,
     pub trials: u32,
+}
+
+/// Why the answer of `search` does not have a four: of these the first that is true. Each is a fact about all lawful fillings of the job. It displays as a
+/// sentence about the four.
+#[derive(Clone, Copy, Debug, PartialEq, Eq)]
+pub enum Reason {
+    /// The answer has it.
+    InAnswer,
+    /// Its four points lie in one plane.
+    Flat,
+    /// Its entry in the table is 0.
+    Barred,
+    /// A point lies strictly inside it: the lowest such point.
+    PointInside(u32),
+    /// No lawful filling has it, for any other cause.
+    NoFillingHoldsIt,
+    /// Lawful fillings have it, each of a lower worst quality than the answer: the best of theirs, in millionths.
+    Lower(u32),
+    /// Lawful fillings that have it are as good as the answer, and each stands later in the order of lists.
+    Later,
+}
+
+impl fmt::Display for Reason {
+    fn fmt(&self, f: &mut fmt::Formatter<'_>) -> fmt::Result {
+        match self {
+            Reason::InAnswer => write!(f, "it is in the answer"),
+            Reason::Flat => write!(f, "it is flat"),
+            Reason::Barred => write!(f, "it is barred"),
+            Reason::PointInside(point) => write!(f, "point {point} is strictly inside it"),
+            Reason::NoFillingHoldsIt => write!(f, "no lawful filling holds it"),
+            Reason::Lower(worst) => write!(f, "the best filling that holds it has a lower worst quality, {worst}"),
+            Reason::Later => write!(f, "a filling that holds it is as good, but stands later in the order of lists"),
+        }
+    }
 }
 
 /// A measurement. `s` is the sum of the six squared edge lengths, at most 180,000,000,000, `d` the determinant, above 0 and at most 6,000,000,000,000,000; both are whole
@@ -489,6 +549,63 @@ pub fn search_limited(job: &Job, limit: u32) -> Result<Limited, Number> {
     };
     let ending = if limited.spent == 0 { Ending::Complete } else { Ending::Spent };
     Ok(Limited { ending, filling, trials: limited.trials })
+}
+
+/// Why the answer of `search` does not have the four of these points, in increasing order; 2 to 13, 22 or 23 where the job is refused, then 24 for a four that is
+/// not increasing or names an absent point, whatever numbers it has, then 15 where there is no lawful filling. The empty job has no points, so that every four is 24.
+///
+/// ```
+/// use cottontuff::{explain, Job, Number, Reason};
+///
+/// let job = Job {
+///     points: &[0, 0, 0, 6, 0, 0, 0, 6, 0, 1, 1, 5, 1, 1, -5],
+///     triangles: &[0, 1, 3, 1, 2, 3, 2, 0, 3, 1, 0, 4, 2, 1, 4, 0, 2, 4],
+///     table: &[500000, 400000, 450000, 450000, 460000],
+///     ..Job::default()
+/// };
+/// assert_eq!(explain(&job, [0, 1, 3, 4])?, Reason::InAnswer);
+/// // Only with 0124 does it fill the hole, and that one has 400000.
+/// let reason = explain(&job, [0, 1, 2, 3])?;
+/// assert_eq!(reason, Reason::Lower(400000));
+/// assert_eq!(reason.to_string(), "the best filling that holds it has a lower worst quality, 400000");
+/// // With 0134 at 400000 both fillings are as good, and the list of two comes first.
+/// let job = Job { table: &[500000, 400000, 400000, 450000, 460000], ..job };
+/// assert_eq!(explain(&job, [0, 1, 3, 4])?, Reason::Later);
+/// assert_eq!(explain(&job, [0, 1, 2, 5]), Err(Number::BAD_FOUR));
+/// # Ok::<(), Number>(())
+/// ```
+pub fn explain(job: &Job, four: [u32; 4]) -> Result<Reason, Number> {
+    let Job { points, triangles, kept, inner, table } = *job;
+    let [a, b, c, d] = four;
+    // SAFETY: each pointer and length are those of a slice, which the function only reads.
+    let explanation = unsafe {
+        c::cottontuff_explain(
+            points.as_ptr(),
+            points.len(),
+            triangles.as_ptr(),
+            triangles.len(),
+            kept.as_ptr(),
+            kept.len(),
+            inner.as_ptr(),
+            inner.len(),
+            table.as_ptr(),
+            table.len(),
+            a,
+            b,
+            c,
+            d,
+        )
+    };
+    refused(explanation.number)?;
+    Ok(match explanation.reason {
+        1 => Reason::InAnswer,
+        2 => Reason::Flat,
+        3 => Reason::Barred,
+        4 => Reason::PointInside(explanation.value),
+        5 => Reason::NoFillingHoldsIt,
+        6 => Reason::Lower(explanation.value),
+        _ => Reason::Later,
+    })
 }
 
 /// Measures the tetrahedron of twelve coordinates from -50,000 to 50,000, in whichever order of its corners; else 3 or 16.
@@ -816,6 +933,104 @@ mod tests {
         }
     }
 
+    #[test]
+    fn case_b_explained() {
+        let job = b(&[], &B_TABLE);
+        for four in [[0, 1, 3, 4], [0, 2, 3, 4], [1, 2, 3, 4]] {
+            assert_eq!(explain(&job, four), Ok(Reason::InAnswer));
+        }
+        // The quality of the filling, not of the four itself.
+        for four in [[0, 1, 2, 3], [0, 1, 2, 4]] {
+            assert_eq!(explain(&job, four), Ok(Reason::Lower(400000)));
+        }
+        let mut table = B_TABLE;
+        table[2] = 400000;
+        for (four, reason) in
+            [([0, 1, 2, 3], Reason::InAnswer), ([0, 1, 3, 4], Reason::Later), ([1, 2, 3, 4], Reason::Later)]
+        {
+            assert_eq!(explain(&b(&[], &table), four), Ok(reason));
+        }
+        // What a four lacks to fill the hole is barred, or in the way of a kept edge or an inner triangle.
+        let mut table = B_TABLE;
+        table[1] = 0;
+        assert_eq!(explain(&b(&[], &table), [0, 1, 2, 4]), Ok(Reason::Barred));
+        assert_eq!(explain(&b(&[], &table), [0, 1, 2, 3]), Ok(Reason::NoFillingHoldsIt));
+        assert_eq!(explain(&b(&[3, 4], &B_TABLE), [0, 1, 2, 3]), Ok(Reason::NoFillingHoldsIt));
+        assert_eq!(explain(&with_inner(&[0, 1, 2]), [0, 1, 3, 4]), Ok(Reason::NoFillingHoldsIt));
+    }
+
+    #[test]
+    fn a_point_inside_and_flat_fours_are_explained() {
+        let points = [0, 0, 0, 4, 0, 0, 0, 4, 0, 0, 0, 4, 1, 1, 1];
+        let job = Job { points: &points, triangles: &TET_TRIANGLES, table: &[1; 5], ..Job::default() };
+        assert_eq!(explain(&job, [0, 1, 2, 3]), Ok(Reason::PointInside(4)));
+        // Barred comes before a point inside.
+        assert_eq!(explain(&Job { table: &[0, 1, 1, 1, 1], ..job }, [0, 1, 2, 3]), Ok(Reason::Barred));
+        // Two tetrahedra over a square, whose four corners are flat, whatever their entry.
+        let points = [0, 0, 0, 4, 0, 0, 4, 4, 0, 0, 4, 0, 1, 1, 4];
+        let triangles = [0, 2, 1, 0, 3, 2, 0, 1, 4, 1, 2, 4, 2, 3, 4, 3, 0, 4];
+        for entry in [-1, 0, 1] {
+            let table = [entry, 1, 1, 1, 1];
+            let job = Job { points: &points, triangles: &triangles, table: &table, ..Job::default() };
+            assert_eq!(explain(&job, [0, 1, 2, 3]), Ok(Reason::Flat));
+            assert_eq!(explain(&job, [0, 1, 2, 4]), Ok(Reason::InAnswer));
+            assert_eq!(explain(&job, [0, 1, 3, 4]), Ok(Reason::NoFillingHoldsIt));
+        }
+    }
+
+    const BAD_FOURS: [[u32; 4]; 12] = [
+        [0, 1, 2, 5],
+        [0, 0, 1, 2],
+        [0, 1, 1, 2],
+        [0, 1, 2, 2],
+        [1, 0, 2, 3],
+        [0, 2, 1, 3],
+        [0, 1, 3, 2],
+        [3, 2, 1, 0],
+        // The low bytes of these would name a four that is there.
+        [0, 1, 2, 256 + 3],
+        [0, 1, 2, 65536 + 3],
+        [256, 257, 258, 259],
+        [u32::MAX; 4],
+    ];
+
+    #[test]
+    fn a_bad_four_comes_after_the_job_and_before_15() {
+        let mut table = B_TABLE;
+        table[1] = 0;
+        table[2] = 0;
+        let (unfillable, mut unmeasured) = (b(&[], &table), B_TABLE);
+        unmeasured[0] = -1;
+        for four in BAD_FOURS {
+            assert_eq!(explain(&b(&[], &B_TABLE), four), Err(Number::BAD_FOUR));
+            assert_eq!(explain(&unfillable, four), Err(Number::BAD_FOUR));
+            assert_eq!(explain(&Job::default(), four), Err(Number::BAD_FOUR));
+            assert_eq!(explain(&b(&[], &unmeasured), four), Err(Number::UNMEASURED));
+            assert_eq!(explain(&with_inner(&[0, 1, 5]), four), Err(Number::BAD_INNER));
+        }
+        assert_eq!(explain(&Job::default(), [0, 1, 2, 3]), Err(Number::BAD_FOUR));
+        // A barred four too: the job has no answer to be in.
+        for four in [[0, 1, 2, 3], [0, 1, 2, 4]] {
+            assert_eq!(explain(&unfillable, four), Err(Number::NO_FILLING));
+        }
+    }
+
+    #[test]
+    fn reasons_are_sentences() {
+        let all = [
+            (Reason::InAnswer, "it is in the answer"),
+            (Reason::Flat, "it is flat"),
+            (Reason::Barred, "it is barred"),
+            (Reason::PointInside(0), "point 0 is strictly inside it"),
+            (Reason::NoFillingHoldsIt, "no lawful filling holds it"),
+            (Reason::Lower(1), "the best filling that holds it has a lower worst quality, 1"),
+            (Reason::Later, "a filling that holds it is as good, but stands later in the order of lists"),
+        ];
+        for (reason, sentence) in all {
+            assert_eq!(reason.to_string(), sentence);
+        }
+    }
+
     // Sixteen points on a curve; the boundary is that of the first four.
     fn on_a_curve(count: i32) -> Vec<i32> {
         (0..count).flat_map(|i| [i, i * i, i * i * i]).collect()
@@ -1017,6 +1232,6 @@ mod tests {
         assert_eq!(Number::NO_FILLING.to_string(), "15: no lawful filling exists");
         assert_eq!(Number(99).to_string(), "99");
         let all: Vec<u32> = Number::ALL.iter().map(|number| number.0).collect();
-        assert_eq!(all, (1..=20).chain(22..=23).chain(31..=38).collect::<Vec<u32>>());
+        assert_eq!(all, (1..=20).chain(22..=24).chain(31..=38).collect::<Vec<u32>>());
     }
 }

@@ -6,6 +6,8 @@
 // Ends in 'N passed, M failed'.
 #include "rows.h"
 
+static uint8_t list[MOST];
+
 // Whether the search gives this answer and touches nothing behind it, and checker and judge agree with it.
 static int is_found(size_t room, const char *wanted, char *fours) {
     static uint8_t answer[MOST], plain[MOST];

@@ -8,7 +8,7 @@
 
 enum { ROOM = COTTONTUFF_ANSWER_BYTES + 64, EACH = 200, LAST = 1 << 13 };
 
-static uint8_t before[ROOM], answer[ROOM], whole[ROOM];
+static uint8_t before[ROOM], answer[ROOM], whole[ROOM], list[MOST];
 
 static cottontuff_limited ask(uint32_t limit, size_t room) {
     memcpy(answer, before, ROOM);

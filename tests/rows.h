@@ -6,7 +6,7 @@
 enum { FIELDS = 8, MOST = 1 << 17 };
 
 static int32_t points[MOST], table[MOST];
-static uint8_t triangles[MOST], kept[MOST], inner[MOST], list[MOST];
+static uint8_t triangles[MOST], kept[MOST], inner[MOST];
 static size_t points_len, triangles_len, kept_len, inner_len, table_len;
 static int passed, failed;
 
@@ -26,8 +26,8 @@ static size_t bytes(char *from, uint8_t *to) {
     return n;
 }
 
-// P;T;E;K;Q
-static void read_lists(char **field) {
+// P;T;E;K;Q. Inline: not every harness has such rows.
+static inline void read_lists(char **field) {
     points_len = numbers(field[0], points), triangles_len = bytes(field[1], triangles), kept_len = bytes(field[2], kept);
     inner_len = bytes(field[3], inner), table_len = numbers(field[4], table);
 }

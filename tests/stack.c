@@ -1,6 +1,7 @@
 // How deep the stack gets: what is asked of each file runs in a thread on a painted stack.
 //   stack FILE ..          NAME.txt, a job: its printout, the search in it; NAME.mesh, P and H lines: open, grow three times and replace at every tetrahedron
 //   stack -l LIMIT FILE .. NAME.txt, a job: the limited search
+//   stack -e FILE ..       NAME.txt, a job: the explanation of every four
 #include "job.h"
 
 #include <pthread.h>
@@ -18,6 +19,15 @@ static void *print(void *unused) {
 
 static void *try_corners(void *unused) {
     cottontuff_search_limited(j.points, 3 * (size_t)j.np, j.triangles, 3 * (size_t)j.nt, j.kept, 2 * (size_t)j.ne, j.inner, 3 * (size_t)j.nk, j.table, j.entries, limit, answer, ANSWER);
+    return unused;
+}
+
+static void *explain(void *unused) {
+    uint32_t n = (uint32_t)j.np;
+    for (uint32_t a = 0; a < n; a++)
+        for (uint32_t b = a + 1; b < n; b++)
+            for (uint32_t c = b + 1; c < n; c++)
+                for (uint32_t d = c + 1; d < n; d++) cottontuff_explain(j.points, 3 * (size_t)j.np, j.triangles, 3 * (size_t)j.nt, j.kept, 2 * (size_t)j.ne, j.inner, 3 * (size_t)j.nk, j.table, j.entries, a, b, c, d);
     return unused;
 }
 
@@ -58,11 +68,11 @@ int main(int argc, char **argv) {
     stack = aligned_alloc(4096, STACK);
     size_t deepest = 0;
     const char *name = "";
-    int limited = argc > 2 && strcmp(argv[1], "-l") == 0;
+    int limited = argc > 2 && strcmp(argv[1], "-l") == 0, explained = argc > 1 && strcmp(argv[1], "-e") == 0;
     if (limited) limit = (uint32_t)strtoul(argv[2], NULL, 10);
-    for (int i = limited ? 3 : 1; i < argc; i++) {
-        if (limited ? !read_job(argv[i]) : !(length = slurp(argv[i], text))) continue;
-        size_t d = depth_of(limited ? try_corners : strstr(argv[i], ".mesh") ? replay : print);
+    for (int i = limited ? 3 : explained ? 2 : 1; i < argc; i++) {
+        if (limited || explained ? !read_job(argv[i]) : !(length = slurp(argv[i], text))) continue;
+        size_t d = depth_of(limited ? try_corners : explained ? explain : strstr(argv[i], ".mesh") ? replay : print);
         if (d > deepest) deepest = d, name = argv[i];
     }
     printf("deepest: %zu bytes, %s\n", deepest, name);

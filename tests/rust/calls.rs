@@ -90,6 +90,16 @@ pub fn search_limited(job: &Job, limit: u32, answer: &mut [u8]) -> [u32; 5] {
     [l.number, l.spent, l.count, l.worst, l.trials]
 }
 
+/// Number, reason and value.
+pub fn explain(job: &Job, [a, b, c, d]: [u32; 4]) -> [u32; 3] {
+    let Job { points, triangles, kept, inner, table } = *job;
+    let (p, t, k, i, q) = (start(points), start(triangles), start(kept), start(inner), start(table));
+    let (np, nt, nk, ni, nq) = (points.len(), triangles.len(), kept.len(), inner.len(), table.len());
+    // SAFETY: each pointer and length are those of a list, which the function only reads.
+    let e = unsafe { c::cottontuff_explain(p, np, t, nt, k, nk, i, ni, q, nq, a, b, c, d) };
+    [e.number, e.reason, e.value]
+}
+
 pub fn measure(list: &[i32]) -> c::Measured {
     // SAFETY: the pointer and length are those of a list, which the function only reads.
     unsafe { c::cottontuff_measure(start(list), list.len()) }

@@ -5,6 +5,7 @@ use std::path::PathBuf;
 mod bench;
 mod check;
 mod empty;
+mod explain;
 mod judge;
 mod large;
 mod limited;
@@ -45,6 +46,7 @@ pub const GROUPS: &[Group] = &[
     search::GROUP,
     large::GROUP,
     limited::GROUP,
+    explain::GROUP,
     empty::GROUP,
     measure::GROUP,
     tables::GROUP,

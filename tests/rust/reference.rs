@@ -4,6 +4,7 @@ pub mod bench;
 pub mod job;
 pub mod laws;
 pub mod measure;
+pub mod reasons;
 pub mod search;
 pub mod space;
 pub mod text;

@@ -4,11 +4,13 @@ pub mod measured;
 
 ghost use mathlib.Core.Path.{_≡_};
 ghost use mathlib.Core.List.{[]};
+ghost use Rattle.geometry.specs.Space.{four};
 ghost use Rattle.laws.specs.Check.{job-refusal};
 ghost use Rattle.laws.specs.Lists.{job-lists};
 ghost use Rattle.judge.specs.Judge.{Judge-says};
 ghost use Rattle.search.specs.Entry.{Search-says};
 ghost use Rattle.limited.specs.Entry.{Limit-says};
+ghost use Rattle.explain.specs.Explain.{Explain-says};
 ghost use Rattle.answer.specs.Answer.{Answered};
 ghost use Rattle.measuring.specs.Filling.{Fills};
 ghost use Rattle.bench.specs.Store.{fresh, loaded, opened-at, grown, closed, Replaces};
@@ -23,6 +25,8 @@ use bench::load::load;
 use bench::opening::open_at;
 use bench::replace::replace;
 use checker::check::check_job;
+use explain::explain::Explanation;
+use explain::explain::explain;
 use judge::judge::Verdict;
 use judge::judge::judge;
 use limited::limited::Limited;
@@ -130,6 +134,24 @@ pub extern "C" fn cottontuff_search_limited<'a, 'b>(
     ensures { λ r. ⌜ Limit-says (job-lists (now (points .entry)) (now (triangles .entry)) (now (kept .entry)) (now (inner .entry)) (now (table .entry))) limit r (now (answer .entry)) (now (answer .exit)) ⌝ }
 {
     search_limited(points, triangles, kept, inner, table, limit, answer)
+}
+
+// Why the four a, b, c, d is not in the answer: the first reason that is true, with its value; or a refusal. Nothing is written.
+#[no_mangle]
+pub extern "C" fn cottontuff_explain<'a, 'b>(
+    points: &'a [i32],
+    triangles: &'b [u8],
+    kept: &'b [u8],
+    inner: &'b [u8],
+    table: &'a [i32],
+    a: u32,
+    b: u32,
+    c: u32,
+    d: u32,
+) -> Explanation
+    ensures { λ r. ⌜ Explain-says (job-lists (now (points .entry)) (now (triangles .entry)) (now (kept .entry)) (now (inner .entry)) (now (table .entry))) (four a b c d) r ⌝ }
+{
+    explain(points, triangles, kept, inner, table, a, b, c, d)
 }
 
 // The measure of a tetrahedron by its twelve coordinates: D, S, the shape number and its millionths; or 3, then 16.

@@ -1,11 +1,13 @@
 //! Stored answers, where a folder of them is given: NAME.txt with NAME.out, judge/cases.txt, measure/cases.txt; in a folder slip-NN judge.txt,
-//! judge-lists.txt, lists.txt and trials.txt. Library and reference both answer them, the reference where it ends soon.
+//! judge-lists.txt, lists.txt, trials.txt and why.txt. Library and reference both answer them, the reference where it ends soon.
+use super::explain;
 use super::limited;
 use super::search::{expected as answered, safely};
 use super::{Group, Part};
 use crate::jobs::Made;
 use crate::reference::job::{self, Lists};
 use crate::reference::measure::{measure, Measurement};
+use crate::reference::reasons::{self, Fillings};
 use crate::reference::search::best_by_faces;
 use crate::reference::text::{print, read};
 use crate::tally::Tally;
@@ -20,6 +22,8 @@ fn wanted(part: &Part) -> (Vec<String>, u64) {
 }
 
 const STEPS: u64 = 1_000;
+/// Rows of reasons are few.
+const REASON_STEPS: u64 = 50_000;
 /// The reference is asked for answers of no more trials.
 const TRIALS: u32 = 2_000;
 
@@ -133,6 +137,39 @@ fn trial_cases(tally: &mut Tally, part: &Part, folder: &Path) {
     }
 }
 
+/// W,reason,value or R,number.
+fn explained(fields: &str) -> [u32; 3] {
+    let (letter, rest) = fields.split_once(',').unwrap_or_default();
+    match decimals(rest)[..] {
+        [reason, value] if letter == "W" => [0, reason, value],
+        [number] if letter == "R" => [number, 0, 0],
+        _ => [u32::MAX; 3],
+    }
+}
+
+/// What the reference says, where it ends soon.
+fn explained_by_faces(lists: &Lists, four: [u32; 4]) -> Option<[u32; 3]> {
+    match job::check(lists) {
+        Err(number) => Some([number, 0, 0]),
+        Ok(job) => reasons::explain(&job, &best_by_faces(&job, REASON_STEPS)?, four, &Fillings::ByFaces(REASON_STEPS)),
+    }
+}
+
+/// Lines JOB;a,b,c,d;RESULT: why a four is not in the answer.
+fn why_cases(tally: &mut Tally, part: &Part, folder: &Path) {
+    for case in cases(folder.join("why.txt")).iter().skip(part.number as usize).step_by(part.of as usize) {
+        let (lists, made) = stored_job(folder, &case[0]);
+        let four: [u32; 4] = decimals(&case[1]).try_into().unwrap_or_default();
+        let expected = explained(&case[2]);
+        let got = cottontuff::explain(&made.job(), four);
+        tally.compare("explained".to_string(), &explain::safely(expected), &got, || case.join(";"));
+        match explained_by_faces(&lists, four) {
+            Some(got) => tally.compare("explained by the reference".to_string(), &expected, &got, || case.join(";")),
+            None => tally.count("given up"),
+        }
+    }
+}
+
 /// The job of a line that begins P;T;E;K;Q.
 fn made_of(case: &[String]) -> Made {
     let [triangles, kept, inner] = [1, 2, 3].map(|at| decimals(&case[at]));
@@ -214,6 +251,7 @@ fn run(part: &Part) -> Tally {
     for folder in &part.folders {
         printouts(&mut tally, part, folder);
         trial_cases(&mut tally, part, folder);
+        why_cases(&mut tally, part, folder);
         if part.number == 0 {
             judge_cases(&mut tally, folder.join("judge/cases.txt"), &folder.join("small"));
             judge_cases(&mut tally, folder.join("judge.txt"), folder);

@@ -91,8 +91,22 @@ impl Walk<'_> {
     }
 }
 
-/// From face to face, in at most so many steps; none where they do not suffice.
+/// The best from face to face, in at most so many steps; none where they do not suffice.
 pub fn best_by_faces(job: &Job, steps: u64) -> Option<Best> {
+    let mut walk = walk_of(job, steps);
+    walk.walk(&mut Vec::new()).then_some(walk.best)
+}
+
+/// The best of those that hold a four, in the same way: it is set before the first face is looked at.
+pub fn best_with_by_faces(job: &Job, four: Four, steps: u64) -> Option<Best> {
+    let mut walk = walk_of(job, steps);
+    match walk.candidates.iter().position(|(f, _)| *f == four) {
+        Some(i) => walk.walk(&mut vec![i]).then_some(walk.best),
+        None => Some(None),
+    }
+}
+
+fn walk_of(job: &Job, steps: u64) -> Walk<'_> {
     let sound = |f: &Four| job.law_2(*f) && job.law_3(*f);
     let candidates: Vec<(Four, [Triangle; 4])> = fours(job.points.len())
         .into_iter()
@@ -104,6 +118,5 @@ pub fn best_by_faces(job: &Job, steps: u64) -> Option<Best> {
     for (i, (_, of_i)) in candidates.iter().enumerate() {
         of_i.iter().for_each(|f| owners.entry(*f).or_default().push(i));
     }
-    let mut walk = Walk { job, candidates, owners, apart: BTreeMap::new(), best: None, steps_left: steps };
-    walk.walk(&mut Vec::new()).then_some(walk.best)
+    Walk { job, candidates, owners, apart: BTreeMap::new(), best: None, steps_left: steps }
 }
