@@ -5,8 +5,7 @@
 // slowest four, each in the median over the jobs and at most; the slowest explanation of all. Which of a job's fours is taken changes the ratio severalfold, as reasons 1 to 4 cost one search: so all three stand there.
 // bench/explain/run builds it and runs it on the stored jobs.
 #include "../../tests/rows.h"
-
-#include <time.h>
+#include "../times.h"
 
 enum { RUNS = 5, JOBS = 1000, FOURS_OF_REASON = 200000, REASONS = 8 };
 
@@ -14,22 +13,6 @@ static uint8_t answer[ANSWER];
 static double ratios[REASONS][FOURS_OF_REASON], slowest[REASONS], medians[JOBS], means[JOBS], most[JOBS], slowest_search;
 static int counts[REASONS], jobs;
 static char slowest_name[REASONS][400];
-
-static double millis(void) {
-    struct timespec t;
-    clock_gettime(CLOCK_MONOTONIC, &t);
-    return 1e3 * (double)t.tv_sec + 1e-6 * (double)t.tv_nsec;
-}
-
-static int by_size(const void *a, const void *b) {
-    double x = *(const double *)a, y = *(const double *)b;
-    return (x > y) - (x < y);
-}
-
-static double median(double *of, int n) {
-    qsort(of, (size_t)n, sizeof *of, by_size);
-    return of[n / 2];
-}
 
 static double time_of_search(void) {
     double least = 1e9;

@@ -3,29 +3,12 @@
 //                               of the whole search; then the medians over the jobs and the slowest
 // bench/limited/run builds it and runs it with 2,000 trials.
 #include "../../tests/job.h"
-
-#include <time.h>
+#include "../times.h"
 
 enum { RUNS = 15, MOST = 1000 };
 static uint8_t answer[ANSWER];
 
 #define LISTS j.points, 3 * (size_t)j.np, j.triangles, 3 * (size_t)j.nt, j.kept, 2 * (size_t)j.ne, j.inner, 3 * (size_t)j.nk, j.table, j.entries
-
-static double millis(void) {
-    struct timespec t;
-    clock_gettime(CLOCK_MONOTONIC, &t);
-    return 1e3 * (double)t.tv_sec + 1e-6 * (double)t.tv_nsec;
-}
-
-static int by_size(const void *a, const void *b) {
-    double x = *(const double *)a, y = *(const double *)b;
-    return (x > y) - (x < y);
-}
-
-static double median(double *of, int n) {
-    qsort(of, (size_t)n, sizeof *of, by_size);
-    return of[n / 2];
-}
 
 static cottontuff_limited limited;
 static cottontuff_found found;
