@@ -1,8 +1,6 @@
 // What was compared, by the kind of answer, so that nobody can take an empty run for a pass.
 use comparison::tally::with_difference;
 use lines::tally::Counts;
-use lines::tally::print;
-use lines::tally::print_count;
 
 // Where is counted, in the order in which the counts are printed: answers, and behind them those with the reasons 1 to 7.
 const ANSWERS: usize = 0;

@@ -49,6 +49,7 @@ fn refused(number: u32) -> Explanation
     }
 }
 
+// A reason's answer, with the value that goes with it, or 0.
 fn because(reason: u32, value: u32) -> Explanation
     ensures { λ r. ⌜ r ≡ because-of reason value ⌝ }
 {

@@ -19,7 +19,7 @@ use Rattle.trail.specs.State.{Sized}
 use Rattle.propagation.specs.Prepared.{rows-of, boundary-of, bound-of}
 use Rattle.reasons.specs.Reasons.{Best-with}
 
--- the number of f among the first n fours of a list, n or more where it is none of them
+-- the number of f among the first n fours of a list, n where it is none of them
 pub record Numbered (n : ℕ) (list : List ℕ) (f : Four) (r : ℕ) : Type 0 where
   pub within : r ≤ n
   pub there : r < n → nth (fours-in n list) r ≡ f
