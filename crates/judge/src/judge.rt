@@ -24,7 +24,7 @@ pub struct Verdict {
 }
 
 // The lowest law that the list breaks, 0 for none. A list's order is looked at first, so that no list takes long.
-pub(crate) fn lowest_broken(
+pub fn lowest_broken(
     points: &[i32],
     triangles: &[u8],
     kept: &[u8],

@@ -6,4 +6,4 @@ mod inner;
 mod interior;
 pub mod judge;
 mod order;
-mod quality;
+pub mod quality;

@@ -42,7 +42,7 @@ pub(crate) fn keeps_quality(points: &[i32], table: &[i32], list: &[u8]) -> bool
 }
 
 // The lesser of two qualities.
-fn lesser(a: u32, b: u32) -> u32
+pub fn lesser(a: u32, b: u32) -> u32
     ensures { λ r. ⌜ r ≡ min a b ⌝ }
 {
     if a < b { a } else { b }

@@ -48,7 +48,7 @@ pub struct Found {
 }
 
 // A refusal's answer.
-fn refused(number: u32) -> Found
+pub fn refused(number: u32) -> Found
     ensures { λ r. ⌜ r ≡ refused-with number ⌝ }
 {
     Found {
