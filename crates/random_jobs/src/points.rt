@@ -48,7 +48,7 @@ pub fn size(seed: u64) -> usize {
 }
 
 // v - by, which is below 0 by the complement; 0 where it is out of range.
-fn less(v: usize, by: usize) -> i32 {
+pub fn less(v: usize, by: usize) -> i32 {
     if v < by {
         let below = by - 1 - v;
         return if below < 50_000 { !(below as i32) } else { 0 };
