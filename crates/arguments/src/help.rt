@@ -19,7 +19,7 @@ pub fn print_version(program: &[u8]) {
         say_unwritten(program);
         return;
     }
-    print(program, b" 1.6.0\n");
+    print(program, b" 1.7.0\n");
 }
 
 pub fn print_help() {

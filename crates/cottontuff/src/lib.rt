@@ -11,6 +11,7 @@ ghost use Rattle.judge.specs.Judge.{Judge-says};
 ghost use Rattle.search.specs.Entry.{Search-says};
 ghost use Rattle.limited.specs.Entry.{Limit-says};
 ghost use Rattle.explain.specs.Explain.{Explain-says};
+ghost use Rattle.removal.specs.Removal.{Removal-says};
 ghost use Rattle.answer.specs.Answer.{Answered};
 ghost use Rattle.measuring.specs.Filling.{Fills};
 ghost use Rattle.bench.specs.Store.{fresh, loaded, opened-at, grown, closed, Replaces};
@@ -34,6 +35,7 @@ use limited::limited::search_limited;
 use measured::Measured;
 use measured::measure_for_c;
 use measuring::fill::fill_table;
+use removal::removal::remove_edge;
 use search::search::Found;
 use search::search::search;
 
@@ -152,6 +154,21 @@ pub extern "C" fn cottontuff_explain<'a, 'b>(
     ensures { λ r. ⌜ Explain-says (job-lists (now (points .entry)) (now (triangles .entry)) (now (kept .entry)) (now (inner .entry)) (now (table .entry))) (four a b c d) r ⌝ }
 {
     explain(points, triangles, kept, inner, table, a, b, c, d)
+}
+
+// The edge from a to b removed: of the triangulations of its ring, each triple joined to a and to b, the best that is lawful, the first row among equals; its bytes at the start of the answer. Or a refusal, and the answer as it was.
+#[no_mangle]
+pub extern "C" fn cottontuff_remove_edge(
+    points: &[i32],
+    a: u32,
+    b: u32,
+    ring: &[u8],
+    table: &[i32],
+    answer: &mut [u8],
+) -> Found
+    ensures { λ r. ⌜ Removal-says (now (points .entry)) a b (now (ring .entry)) (now (table .entry)) r (now (answer .entry)) (now (answer .exit)) ⌝ }
+{
+    remove_edge(points, a, b, ring, table, answer)
 }
 
 // The measure of a tetrahedron by its twelve coordinates: D, S, the shape number and its millionths; or 3, then 16.
