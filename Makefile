@@ -2,7 +2,7 @@
 RT = rt
 PREFIX = /usr/local
 CFLAGS = -O2 -Wall -Wextra
-VERSION = 1.6.0
+VERSION = 1.7.0
 SONAME = libcottontuff.so.1
 library = target/staticlib/libcottontuff.a
 shared = target/lib/libcottontuff.so.$(VERSION)
@@ -13,7 +13,7 @@ installed = $(subst _,-,$(programs))
 # rt proves its crate anew at each call, so it is called only where a source is newer.
 sources = crates.txt $(shell find crates -name '*.rt' -o -name '*.antt')
 
-all: $(library) $(shared) target/cottontuff.pc $(programs:%=target/bin/%) target/examples/bench-session target/examples/limited target/examples/explain
+all: $(library) $(shared) target/cottontuff.pc $(programs:%=target/bin/%) target/examples/bench-session target/examples/limited target/examples/explain target/examples/edge-ring
 
 help:
 	@echo 'make             the library, static and shared, target/cottontuff.pc, the programs, the examples in C'

@@ -37,6 +37,7 @@ int main(void) {
  * - Stack: see COTTONTUFF_STACK_BYTES below.
  *
  * What changed, for a program written for an older version. No symbol was taken away and no struct changed, so that it links as it is.
+ * - 1.7.0: cottontuff_remove_edge, and numbers 25 and 26, which it alone gives.
  * - 1.6.0: cottontuff_explain, and number 24, which it alone gives.
  * - 1.5.0: coordinates reach from -50,000 to 50,000. They reached from -10,000 to 10,000: who relinks gets an answer where a coordinate beyond that got 3, from every function that takes coordinates.
  *   COTTONTUFF_FURTHEST is 50000: who tests coordinates against it before a call compiles anew, or goes on refusing what the library takes. A value of the bench with such a coordinate held no mesh, and may hold one now.
@@ -54,7 +55,7 @@ int main(void) {
 extern "C" {
 #endif
 
-#define COTTONTUFF_VERSION "1.6.0"
+#define COTTONTUFF_VERSION "1.7.0"
 
 /* ---- sizes of a job */
 #define COTTONTUFF_LEAST_POINTS 4                              /* or none at all, with every other list empty: the empty job */
@@ -69,6 +70,8 @@ extern "C" {
 #define COTTONTUFF_MILLIONTHS 1000000                          /* the greatest quality */
 #define COTTONTUFF_UNMEASURED_ENTRY (-1)                       /* in a table: not measured. 0 bars a four: the two are not the same. */
 #define COTTONTUFF_BARRED_ENTRY 0
+#define COTTONTUFF_LEAST_RING 3                                /* points around an edge that is removed */
+#define COTTONTUFF_MOST_RING 7
 
 /* ---- sizes of text and printout */
 #define COTTONTUFF_TEXT_BYTES 65536                            /* a longer text is refused with 1 */
@@ -81,14 +84,15 @@ extern "C" {
 /* A stack for cottontuff_search, cottontuff_search_inner, cottontuff_search_limited, cottontuff_explain, cottontuff_print and cottontuff_bench_replace. Each level of the search's recursion sets a tetrahedron, and no more than 280 can be set at once: the second is
  * proved. A level takes at most 656 bytes, read off the library, and 481,528 was the deepest that was measured, levels included (docs/BENCHMARKS.md): the compiler's part is not proved.
  * The limited search has a recursion of its own, of at most 280 levels too, which is proved: 576 bytes a level, and 78,208 was the deepest that was measured.
- * An explanation goes down into the search's recursion: 463,912 was the deepest that was measured. */
+ * An explanation goes down into the search's recursion: 463,912 was the deepest that was measured. cottontuff_remove_edge has no recursion, and took 21,904 at most. */
 #define COTTONTUFF_STACK_BYTES (768 * 1024)
 
 /* ---- what is answered: of the numbers that apply, the one whose place comes first, whatever its size.
- * The places of a job's numbers: 1; 2 to 10; 22; 23; 11; 12; 13; 14 (where a buffer is lent) or 24 (where a four is asked about); 15. */
+ * The places of a job's numbers: 1, or 25 (where a ring is handed over); 2 to 10; 22; 23; 11; 12; 13; 14 (where a buffer is lent) or 24 (where a four is asked about); 15, or 26 (where an edge is removed). */
 enum cottontuff_number {
     COTTONTUFF_DONE = 0,
     COTTONTUFF_BAD_TEXT = 1,         /* printout: over 65,536 bytes, or not of the form */
+    COTTONTUFF_BAD_RING = 25,        /* remove_edge: not 3 to 7 points in the ring; or ring and ends repeat a point, or are not exactly the points */
     COTTONTUFF_POINT_COUNT = 2,      /* not 4 to 16 points, except in the empty job (a mesh: not 4 to 64), or length no multiple of 3 */
     COTTONTUFF_FAR_COORDINATE = 3,   /* a coordinate below -50,000 or above 50,000 (before version 1.5.0: 10,000) */
     COTTONTUFF_SAME_PLACE = 4,       /* two points in one place */
@@ -106,6 +110,7 @@ enum cottontuff_number {
     COTTONTUFF_SHORT_BUFFER = 14,    /* the search's buffer is under 7,280 bytes */
     COTTONTUFF_BAD_FOUR = 24,        /* explain: the four is not increasing or names an absent point */
     COTTONTUFF_NO_FILLING = 15,      /* no lawful filling exists: proved, not given up */
+    COTTONTUFF_NO_ROW = 26,          /* remove_edge: no triangulation of the ring gives a lawful list. The search may have a filling all the same. */
     COTTONTUFF_NOT_TWELVE = 16,      /* measuring: not twelve coordinates */
     COTTONTUFF_TET_COUNT = 17,       /* mesh: not 1 to 256 tetrahedra, or length no multiple of 4 */
     COTTONTUFF_BAD_TET = 18,         /* mesh: a tetrahedron is flat, or has an absent or repeated point */
@@ -158,7 +163,7 @@ cottontuff_verdict cottontuff_judge_inner(const int32_t *points, size_t points_l
                                           const int32_t *table, size_t table_len, const uint8_t *list, size_t list_len);
 
 typedef struct {
-    uint32_t number; /* 0, or 2 to 15, 22 or 23, and then the rest is 0 */
+    uint32_t number; /* 0, or 2 to 15, 22 or 23, and then the rest is 0; of cottontuff_remove_edge 0, or 25, 2, 3, 4, 11, 12, 13, 14 or 26 */
     uint32_t count;  /* tetrahedra of the filling; 0 for the empty job, with number 0 */
     uint32_t worst;  /* their least quality, in millionths; 1,000,000 for the empty job */
 } cottontuff_found;
@@ -223,6 +228,31 @@ typedef struct {
 cottontuff_explanation cottontuff_explain(const int32_t *points, size_t points_len, const uint8_t *triangles, size_t triangles_len,
                                           const uint8_t *kept, size_t kept_len, const uint8_t *inner, size_t inner_len,
                                           const int32_t *table, size_t table_len, uint32_t a, uint32_t b, uint32_t c, uint32_t d);
+
+/* ---- edge removal: the quick operator for an edge with 3 to 7 points around it
+ * The edge goes from a to b; ring has the points around it in order, counter-clockwise seen from a:
+ *
+ *          r2 --- r1          a above the paper, b below it. The tetrahedra around the edge, a b r0 r1, a b r1 r2 and so on, are taken out.
+ *         /        \          The ring is cut into triangles instead, and each of them is joined to a and to b: a ring of k points
+ *       r3    ab    r0        gives k - 2 triangles and 2 * (k - 2) tetrahedra, none of which has the edge.
+ *         \        /
+ *          r4 --- r5
+ *
+ * The cavity is where they stood. Its boundary is, for each two neighbours r, s of the ring in order, the last and the first too, (r, s, a) and (s, r, b): 2 * k triangles. There are no kept edges and
+ * no inner triangles. All 1, 2, 5, 14 or 42 ways to cut a ring of 3, 4, 5, 6 or 7 points into triangles stand in a constant table, a row for each, as positions in the ring from 0 on, the triples of a row and the rows in rising order.
+ * Of the rows whose tetrahedra keep the laws for this job, the one of greatest worst quality is answered. */
+
+/* Removes the edge from a to b. Answers as the search does: 4 * count bytes at the start of answer, each four with increasing point numbers, the fours in increasing order; the bytes behind them keep their values.
+ * - Among rows that are as good the first row of the table is answered. That need not be the list that comes first, since points may be numbered otherwise than they stand in the ring.
+ * - points and table are those of the job, the table with an entry for each four of all k + 2 points; ends and ring together are just these points. a and b have 32 bits and are never cut: 256 or 4,294,967,295 is an
+ *   absent point like any other.
+ * - answer: COTTONTUFF_ANSWER_BYTES are asked for, as by the search (14), though at most 40 are written.
+ * - The numbers by their places: 25; 2; 3; 4; 11; 12; 13; 14; 26. 25 counts the points by the length of points by 3, rounded down, so that with a coordinate too many it may be 2. 5 to 10, 22 and 23 never come, as the
+ *   boundary of a good ring is closed and its triangles are distinct, nor does 15. A refusal changes no byte.
+ * - 26 also where the ring turns the wrong way, or lies so that no row fits its boundary. It does not say that the job has no filling: the search may have one that keeps the edge, or uses it otherwise.
+ * - cottontuff_search on the same job never has a lower worst quality, and may have a greater one. */
+cottontuff_found cottontuff_remove_edge(const int32_t *points, size_t points_len, uint32_t a, uint32_t b, const uint8_t *ring, size_t ring_len,
+                                        const int32_t *table, size_t table_len, uint8_t *answer, size_t answer_len);
 
 /* ---- measuring */
 typedef struct {

@@ -45,8 +45,8 @@ pub mod c {
         pub worst: u32,
     }
 
-    /// `number`: 0, or 2 to 15, 22 or 23, and then the rest is 0. `count`: tetrahedra of the filling, 0 for the empty job. `worst`: their least quality,
-    /// 1,000,000 where there are none.
+    /// `number`: 0, or 2 to 15, 22 or 23, and then the rest is 0; of `cottontuff_remove_edge` 0, or 25, 2, 3, 4, 11 to 14 or 26. `count`: tetrahedra of the
+    /// filling, 0 for the empty job. `worst`: their least quality, 1,000,000 where there are none.
     #[repr(C)]
     #[derive(Clone, Copy, Debug, PartialEq, Eq)]
     pub struct Found {
@@ -205,6 +205,18 @@ pub mod c {
             c: u32,
             d: u32,
         ) -> Explanation;
+        pub fn cottontuff_remove_edge(
+            points: *const i32,
+            points_len: usize,
+            a: u32,
+            b: u32,
+            ring: *const u8,
+            ring_len: usize,
+            table: *const i32,
+            table_len: usize,
+            answer: *mut u8,
+            answer_len: usize,
+        ) -> Found;
         pub fn cottontuff_measure(coordinates: *const i32, coordinates_len: usize) -> Measured;
         pub fn cottontuff_measure_table(
             points: *const i32,
@@ -232,7 +244,7 @@ pub mod c {
 }
 
 /// Why something is refused: the papers' number. It displays as their words. Of the numbers that apply the one whose place comes first is given;
-/// the places of a job's numbers are 1; 2 to 10; 22; 23; 11; 12; 13; 14 or 24; 15. The order of this type is by size.
+/// the places of a job's numbers are 1 or 25; 2 to 10; 22; 23; 11; 12; 13; 14 or 24; 15 or 26. The order of this type is by size.
 #[derive(Clone, Copy, Debug, PartialEq, Eq, PartialOrd, Ord, Hash)]
 pub struct Number(pub u32);
 
@@ -280,6 +292,8 @@ numbers! {
     INNER_COUNT = 22, "over 560 inner triangles, or length no multiple of 3";
     BAD_INNER = 23, "inner triangle with an absent or repeated point";
     BAD_FOUR = 24, "explain: the four is not increasing or names an absent point";
+    BAD_RING = 25, "remove an edge: the ring is not 3 to 7 points, or ring and ends repeat a point or are not exactly the points";
+    NO_ROW = 26, "remove an edge: no row gives a lawful list";
     NO_MESH = 31, "open, grow, replace, close: no mesh loaded";
     CAVITY_OPEN = 32, "load, open: a cavity is open";
     NO_CAVITY = 33, "grow, replace, close: none is open";
@@ -606,6 +620,54 @@ pub fn explain(job: &Job, four: [u32; 4]) -> Result<Reason, Number> {
         6 => Reason::Lower(explanation.value),
         _ => Reason::Later,
     })
+}
+
+/// Removes the edge from `a` to `b`, around which the points of `ring` stand in order, counter-clockwise seen from `a`. Of the triangulations of the ring, each
+/// triple joined to `a` and to `b`, the lawful one of greatest worst quality; among equals the first row of the table, which need not be the list that comes first.
+/// `points` and `table` are those of the job, whose boundary is, for each two neighbours r, s of the ring, the last and the first too, (r, s, a) and (s, r, b).
+///
+/// 25 for a ring that is not 3 to 7 points, or where ring and ends repeat a point or are not exactly the points; then 2, 3, 4, 11, 12 or 13 where the job is
+/// refused; then 26, no row is lawful. 26 does not say that there is no filling: `search` may have one that keeps the edge, or uses it otherwise. `search` on the
+/// same job never has a lower worst quality, and may have a greater one.
+///
+/// ```
+/// use cottontuff::{remove_edge, search, Job, Number};
+///
+/// // Case B, two pyramids on the base 0 1 2: the edge from 3 to 4 runs through it.
+/// let points = [0, 0, 0, 6, 0, 0, 0, 6, 0, 1, 1, 5, 1, 1, -5];
+/// let table = [500000, 400000, 450000, 450000, 460000];
+/// let filling = remove_edge(&points, 3, 4, &[0, 1, 2], &table)?;
+/// assert_eq!(filling.fours, [[0, 1, 2, 3], [0, 1, 2, 4]]);
+/// assert_eq!(filling.worst, 400000);
+/// // The search keeps the edge, since that is better.
+/// let triangles = [0, 1, 3, 1, 2, 3, 2, 0, 3, 1, 0, 4, 2, 1, 4, 0, 2, 4];
+/// let job = Job { points: &points, triangles: &triangles, table: &table, ..Job::default() };
+/// assert_eq!(search(&job)?.worst, 450000);
+/// // Clockwise seen from 3, or with 0124 barred: no row is lawful.
+/// assert_eq!(remove_edge(&points, 3, 4, &[2, 1, 0], &table), Err(Number::NO_ROW));
+/// assert_eq!(remove_edge(&points, 3, 4, &[0, 1, 2], &[500000, 0, 450000, 450000, 460000]), Err(Number::NO_ROW));
+/// assert_eq!(remove_edge(&points, 3, 4, &[0, 1, 1], &table), Err(Number::BAD_RING));
+/// # Ok::<(), Number>(())
+/// ```
+pub fn remove_edge(points: &[i32], a: u32, b: u32, ring: &[u8], table: &[i32]) -> Result<Filling, Number> {
+    let mut answer = [0; ANSWER_BYTES];
+    // SAFETY: each pointer and length are those of a slice; the function writes to `answer` alone, which no other slice overlaps.
+    let found = unsafe {
+        c::cottontuff_remove_edge(
+            points.as_ptr(),
+            points.len(),
+            a,
+            b,
+            ring.as_ptr(),
+            ring.len(),
+            table.as_ptr(),
+            table.len(),
+            answer.as_mut_ptr(),
+            answer.len(),
+        )
+    };
+    refused(found.number)?;
+    Ok(filling_in(&answer, found.count as usize, found.worst))
 }
 
 /// Measures the tetrahedron of twelve coordinates from -50,000 to 50,000, in whichever order of its corners; else 3 or 16.
@@ -1031,6 +1093,79 @@ mod tests {
         }
     }
 
+    #[test]
+    fn case_b_as_a_ring_of_three() {
+        let two = filled(&[[0, 1, 2, 3], [0, 1, 2, 4]], 400000);
+        for ring in [[0, 1, 2], [1, 2, 0], [2, 0, 1]] {
+            assert_eq!(remove_edge(&B_POINTS, 3, 4, &ring, &B_TABLE), two);
+        }
+        // Seen from the other end the ring turns the other way.
+        assert_eq!(remove_edge(&B_POINTS, 4, 3, &[0, 2, 1], &B_TABLE), two);
+        assert_eq!(remove_edge(&B_POINTS, 4, 3, &[0, 1, 2], &B_TABLE), Err(Number::NO_ROW));
+        let mut table = B_TABLE;
+        table[1] = 0;
+        assert_eq!(remove_edge(&B_POINTS, 3, 4, &[0, 1, 2], &table), Err(Number::NO_ROW));
+        assert_eq!(search(&b(&[], &table)).map(|filling| filling.worst), Ok(450000));
+    }
+
+    // Two ends over and under a square, ring 0 3 1 2 in order; either diagonal is a row.
+    const SQUARE: [i32; 18] = [9, 0, 0, -9, 0, 0, 0, -9, 0, 0, 9, 0, 1, 2, 7, 1, 2, -7];
+
+    #[test]
+    fn the_better_row_and_the_first_among_equals() {
+        // The four corners of the square are flat; every other entry is 5.
+        let mut table = [5; 15];
+        table[0] = -1;
+        let first = [[0, 1, 2, 4], [0, 1, 2, 5], [0, 1, 3, 4], [0, 1, 3, 5]];
+        let second = [[0, 2, 3, 4], [0, 2, 3, 5], [1, 2, 3, 4], [1, 2, 3, 5]];
+        // Positions 0 1 2 and 0 2 3 are the first row: the diagonal of ring[0] and ring[2].
+        assert_eq!(remove_edge(&SQUARE, 4, 5, &[0, 3, 1, 2], &table), filled(&first, 5));
+        // From the next point on the other diagonal is the first row, though its list comes later.
+        assert_eq!(remove_edge(&SQUARE, 4, 5, &[3, 1, 2, 0], &table), filled(&second, 5));
+        // 0 1 3 4 is worse: so is every row that has it.
+        table[3] = 4;
+        assert_eq!(remove_edge(&SQUARE, 4, 5, &[0, 3, 1, 2], &table), filled(&second, 5));
+        table[10] = 3;
+        assert_eq!(remove_edge(&SQUARE, 4, 5, &[0, 3, 1, 2], &table), filled(&first, 4));
+    }
+
+    #[test]
+    fn a_bad_ring_comes_first_and_no_row_last() {
+        let bad: [(u32, u32, &[u8]); 13] = [
+            (3, 4, &[]),
+            (3, 4, &[0, 1]),
+            (3, 4, &[0, 1, 1]),
+            (3, 4, &[0, 1, 3]),
+            (3, 4, &[0, 1, 4]),
+            (3, 4, &[0, 1, 5]),
+            (3, 4, &[0, 1, 255]),
+            (3, 4, &[0, 1, 2, 0]),
+            (3, 3, &[0, 1, 2]),
+            (3, 5, &[0, 1, 2]),
+            // The low bytes of these would be the ends.
+            (256 + 3, 4, &[0, 1, 2]),
+            (3, 65536 + 4, &[0, 1, 2]),
+            (u32::MAX, u32::MAX - 1, &[0, 1, 2]),
+        ];
+        for (a, b, ring) in bad {
+            assert_eq!(remove_edge(&B_POINTS, a, b, ring, &B_TABLE), Err(Number::BAD_RING));
+            assert_eq!(remove_edge(&[0; 15], a, b, ring, &[]), Err(Number::BAD_RING));
+        }
+        assert_eq!(remove_edge(&[], 0, 0, &[], &[]), Err(Number::BAD_RING));
+        let ask = |points: &[i32], table: &[i32]| remove_edge(points, 3, 4, &[2, 1, 0], table);
+        // A coordinate too many leaves as many points; a point too many does not.
+        assert_eq!(ask(&[&B_POINTS[..], &[0]].concat(), &[]), Err(Number::POINT_COUNT));
+        assert_eq!(ask(&[&B_POINTS[..], &[0, 0, 0]].concat(), &B_TABLE), Err(Number::BAD_RING));
+        let mut points = B_POINTS;
+        points[14] = -50_001;
+        assert_eq!(ask(&points, &[]), Err(Number::FAR_COORDINATE));
+        assert_eq!(ask(&[0; 15], &[]), Err(Number::SAME_PLACE));
+        assert_eq!(ask(&B_POINTS, &B_TABLE[..4]), Err(Number::TABLE_LENGTH));
+        assert_eq!(ask(&B_POINTS, &[-1, 0, 0, 0, -2]), Err(Number::BAD_ENTRY));
+        assert_eq!(ask(&B_POINTS, &[-1, 0, 0, 0, 0]), Err(Number::UNMEASURED));
+        assert_eq!(ask(&B_POINTS, &B_TABLE), Err(Number::NO_ROW));
+    }
+
     // Sixteen points on a curve; the boundary is that of the first four.
     fn on_a_curve(count: i32) -> Vec<i32> {
         (0..count).flat_map(|i| [i, i * i, i * i * i]).collect()
@@ -1232,6 +1367,6 @@ mod tests {
         assert_eq!(Number::NO_FILLING.to_string(), "15: no lawful filling exists");
         assert_eq!(Number(99).to_string(), "99");
         let all: Vec<u32> = Number::ALL.iter().map(|number| number.0).collect();
-        assert_eq!(all, (1..=20).chain(22..=24).chain(31..=38).collect::<Vec<u32>>());
+        assert_eq!(all, (1..=20).chain(22..=26).chain(31..=38).collect::<Vec<u32>>());
     }
 }

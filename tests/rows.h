@@ -3,7 +3,7 @@
 #include "job.h"
 
 // As long as the longest list or buffer of a row, and longer.
-enum { FIELDS = 8, MOST = 1 << 17 };
+enum { FIELDS = 9, MOST = 1 << 17 };
 
 static int32_t points[MOST], table[MOST];
 static uint8_t triangles[MOST], kept[MOST], inner[MOST];
@@ -13,9 +13,13 @@ static int passed, failed;
 #define FOUR_LISTS points, points_len, triangles, triangles_len, kept, kept_len, table, table_len
 #define FIVE_LISTS points, points_len, triangles, triangles_len, kept, kept_len, inner, inner_len, table, table_len
 
+// Parted by commas or blanks; v*n is n times v.
 static size_t numbers(char *from, int32_t *to) {
     size_t n = 0;
-    for (char *p = strtok(from, ", "); p && n < MOST; p = strtok(NULL, ", ")) to[n++] = atoi(p);
+    for (char *p = strtok(from, ", "); p; p = strtok(NULL, ", ")) {
+        char *star = strchr(p, '*');
+        for (int times = star ? atoi(star + 1) : 1; times > 0 && n < MOST; times--) to[n++] = atoi(p);
+    }
     return n;
 }
 
@@ -26,13 +30,13 @@ static size_t bytes(char *from, uint8_t *to) {
     return n;
 }
 
-// P;T;E;K;Q. Inline: not every harness has such rows.
+// P;T;E;K;Q. Inline, as what reads texts: not every harness has such rows.
 static inline void read_lists(char **field) {
     points_len = numbers(field[0], points), triangles_len = bytes(field[1], triangles), kept_len = bytes(field[2], kept);
     inner_len = bytes(field[3], inner), table_len = numbers(field[4], table);
 }
 
-static int read_text(const char *path) {
+static inline int read_text(const char *path) {
     if (!read_job(path)) return 0;
     points_len = 3 * (size_t)j.np, triangles_len = 3 * (size_t)j.nt, kept_len = 2 * (size_t)j.ne, inner_len = 3 * (size_t)j.nk, table_len = j.entries;
     memcpy(points, j.points, sizeof *points * points_len), memcpy(table, j.table, sizeof *table * table_len);
@@ -41,7 +45,7 @@ static int read_text(const char *path) {
 }
 
 // NAME.txt in the folder of the file of rows.
-static int read_stored(const char *file, const char *name) {
+static inline int read_stored(const char *file, const char *name) {
     static char path[4096];
     const char *slash = strrchr(file, '/');
     snprintf(path, sizeof path, "%.*s%s.txt", slash ? (int)(slash - file) + 1 : 0, file, name);

@@ -2,14 +2,16 @@
 //   stack FILE ..          NAME.txt, a job: its printout, the search in it; NAME.mesh, P and H lines: open, grow three times and replace at every tetrahedron
 //   stack -l LIMIT FILE .. NAME.txt, a job: the limited search
 //   stack -e FILE ..       NAME.txt, a job: the explanation of every four
-#include "job.h"
+//   stack -r FILE ..       rows NAME;POINTS;A;B;RING;TABLE;..: the edge removed
+#include "ring.h"
 
 #include <pthread.h>
 
 enum { STACK = 16 << 20, PAINT = 0xa5 };
 
 static uint8_t *stack, printout[COTTONTUFF_PRINT_BYTES], answer[ANSWER];
-static size_t length;
+static size_t length, deepest;
+static const char *name = "";
 static uint32_t limit;
 
 static void *print(void *unused) {
@@ -28,6 +30,11 @@ static void *explain(void *unused) {
         for (uint32_t b = a + 1; b < n; b++)
             for (uint32_t c = b + 1; c < n; c++)
                 for (uint32_t d = c + 1; d < n; d++) cottontuff_explain(j.points, 3 * (size_t)j.np, j.triangles, 3 * (size_t)j.nt, j.kept, 2 * (size_t)j.ne, j.inner, 3 * (size_t)j.nk, j.table, j.entries, a, b, c, d);
+    return unused;
+}
+
+static void *remove_edge(void *unused) {
+    cottontuff_remove_edge(RING_LISTS, answer, ANSWER);
     return unused;
 }
 
@@ -64,16 +71,26 @@ static size_t depth_of(void *(*what)(void *)) {
     return STACK - unused;
 }
 
+static void try(void *(*what)(void *), const char *file) {
+    size_t d = depth_of(what);
+    if (d > deepest) deepest = d, name = file;
+}
+
+static int is_ring_tried(const char *file, char **field, int n) {
+    if (n < 8) return 0;
+    read_ring(field + 1), try(remove_edge, file);
+    return 1;
+}
+
 int main(int argc, char **argv) {
     stack = aligned_alloc(4096, STACK);
-    size_t deepest = 0;
-    const char *name = "";
-    int limited = argc > 2 && strcmp(argv[1], "-l") == 0, explained = argc > 1 && strcmp(argv[1], "-e") == 0;
+    int limited = argc > 2 && strcmp(argv[1], "-l") == 0, explained = argc > 1 && strcmp(argv[1], "-e") == 0, rings = argc > 1 && strcmp(argv[1], "-r") == 0;
     if (limited) limit = (uint32_t)strtoul(argv[2], NULL, 10);
-    for (int i = limited ? 3 : explained ? 2 : 1; i < argc; i++) {
-        if (limited || explained ? !read_job(argv[i]) : !(length = slurp(argv[i], text))) continue;
-        size_t d = depth_of(limited ? try_corners : explained ? explain : strstr(argv[i], ".mesh") ? replay : print);
-        if (d > deepest) deepest = d, name = argv[i];
+    for (int i = limited ? 3 : explained || rings ? 2 : 1; i < argc; i++) {
+        if (rings)
+            play(argv[i], is_ring_tried);
+        else if (limited || explained ? read_job(argv[i]) : (int)(length = slurp(argv[i], text)))
+            try(limited ? try_corners : explained ? explain : strstr(argv[i], ".mesh") ? replay : print, argv[i]);
     }
     printf("deepest: %zu bytes, %s\n", deepest, name);
     return 0;

@@ -100,6 +100,15 @@ pub fn explain(job: &Job, [a, b, c, d]: [u32; 4]) -> [u32; 3] {
     [e.number, e.reason, e.value]
 }
 
+/// Number, count and worst quality.
+pub fn remove_edge(points: &[i32], [a, b]: [u32; 2], ring: &[u8], table: &[i32], answer: &mut [u8]) -> [u32; 3] {
+    let (p, r, q, to) = (start(points), start(ring), start(table), start(answer).cast_mut());
+    let (np, nr, nq, room) = (points.len(), ring.len(), table.len(), answer.len());
+    // SAFETY: each pointer and length are those of a list; the function writes to the answer alone, which no other list overlaps.
+    let f = unsafe { c::cottontuff_remove_edge(p, np, a, b, r, nr, q, nq, to, room) };
+    [f.number, f.count, f.worst]
+}
+
 pub fn measure(list: &[i32]) -> c::Measured {
     // SAFETY: the pointer and length are those of a list, which the function only reads.
     unsafe { c::cottontuff_measure(start(list), list.len()) }

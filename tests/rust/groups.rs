@@ -11,6 +11,7 @@ mod large;
 mod limited;
 mod measure;
 mod program;
+mod removal;
 mod search;
 mod sessions;
 mod stored;
@@ -47,6 +48,7 @@ pub const GROUPS: &[Group] = &[
     large::GROUP,
     limited::GROUP,
     explain::GROUP,
+    removal::GROUP,
     empty::GROUP,
     measure::GROUP,
     tables::GROUP,

@@ -5,6 +5,7 @@ pub mod job;
 pub mod laws;
 pub mod measure;
 pub mod reasons;
+pub mod rings;
 pub mod search;
 pub mod space;
 pub mod text;

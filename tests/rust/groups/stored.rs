@@ -1,13 +1,16 @@
 //! Stored answers, where a folder of them is given: NAME.txt with NAME.out, judge/cases.txt, measure/cases.txt; in a folder slip-NN judge.txt,
-//! judge-lists.txt, lists.txt, trials.txt and why.txt. Library and reference both answer them, the reference where it ends soon.
+//! judge-lists.txt, lists.txt, trials.txt and why.txt, or cases.txt and rows.txt of rings. Library and reference both answer them, the reference where it ends soon.
 use super::explain;
 use super::limited;
+use super::removal;
 use super::search::{expected as answered, safely};
 use super::{Group, Part};
+use crate::calls;
 use crate::jobs::Made;
 use crate::reference::job::{self, Lists};
 use crate::reference::measure::{measure, Measurement};
 use crate::reference::reasons::{self, Fillings};
+use crate::reference::rings::{self, Ring};
 use crate::reference::search::best_by_faces;
 use crate::reference::text::{print, read};
 use crate::tally::Tally;
@@ -170,6 +173,50 @@ fn why_cases(tally: &mut Tally, part: &Part, folder: &Path) {
     }
 }
 
+/// A list in which v*n is n times v.
+fn repeated<T: std::str::FromStr + Clone>(list: &str) -> Vec<T> {
+    let times = |part: &str| match part.split_once('*') {
+        Some((value, times)) => vec![value; times.parse().unwrap_or(0)].join(","),
+        None => part.to_string(),
+    };
+    decimals(&list.split(',').map(times).collect::<Vec<String>>().join(","))
+}
+
+/// R,number or F,count,worst and the list, at the start of a buffer.
+fn removed(fields: &str, buffer: &[u8]) -> removal::Answer {
+    let (letter, rest) = fields.split_once(',').unwrap_or_default();
+    match (letter, &decimals::<u32>(rest)[..]) {
+        ("F", [count, worst, list @ ..]) => {
+            let list: Vec<u8> = list.iter().map(|p| *p as u8).collect();
+            ([0, *count, *worst], [&list[..], &buffer[list.len()..]].concat())
+        }
+        ("R", [number]) => ([*number, 0, 0], buffer.to_vec()),
+        _ => ([u32::MAX; 3], buffer.to_vec()),
+    }
+}
+
+/// Lines NAME;POINTS;A;B;RING;TABLE;BUFFER;RESULT;LATER: an edge removed. Beside them rows.txt, which tells such cases from others: lines SIZE;a,b,c d,e,f ..
+fn ring_cases(tally: &mut Tally, folder: &Path) {
+    let stored = cases(folder.join("rows.txt"));
+    for size in 3..=if stored.is_empty() { 0 } else { 7 } {
+        let of_size = stored.iter().filter(|row| row[0] == size.to_string());
+        let expected: Vec<Vec<usize>> = of_size.map(|row| decimals(&row[1].replace(' ', ","))).collect();
+        let got: Vec<Vec<usize>> = rings::rows(size).iter().map(|row| row.concat()).collect();
+        tally.compare("rows of the reference".to_string(), &expected, &got, || format!("a ring of {size}"));
+    }
+    for case in cases(folder.join("cases.txt")).iter().filter(|_| !stored.is_empty()) {
+        let ends = [2, 3].map(|at| case[at].parse().unwrap_or(0));
+        let ring = Ring { points: repeated(&case[1]), ends, ring: repeated(&case[4]), table: repeated(&case[5]) };
+        let buffer: Vec<u8> = (0..case[6].parse().unwrap_or(0)).map(|i: usize| i as u8 ^ 0x5a).collect();
+        let expected = removed(&case[7], &buffer);
+        let listed = removal::expected(&rings::remove_edge(&ring, buffer.len()), buffer.clone());
+        tally.compare("removed by the reference".to_string(), &expected, &listed, || case.join(";"));
+        let mut answer = buffer;
+        let got = calls::remove_edge(&ring.points, ring.ends, &ring.ring, &ring.table, &mut answer);
+        tally.compare("removed".to_string(), &expected, &(got, answer), || case.join(";"));
+    }
+}
+
 /// The job of a line that begins P;T;E;K;Q.
 fn made_of(case: &[String]) -> Made {
     let [triangles, kept, inner] = [1, 2, 3].map(|at| decimals(&case[at]));
@@ -257,6 +304,7 @@ fn run(part: &Part) -> Tally {
             judge_cases(&mut tally, folder.join("judge.txt"), folder);
             judge_list_cases(&mut tally, folder);
             list_cases(&mut tally, folder);
+            ring_cases(&mut tally, folder);
             measure_cases(&mut tally, folder);
         }
     }
