@@ -122,7 +122,7 @@ fn hull(points: &[Point]) -> Vec<Triangle> {
 }
 
 /// Entries: all alike, few values with many ties, any, or measured; some barred; a flat four has −1 or anything.
-fn table(random: &mut Random, points: &[i32]) -> Vec<i32> {
+pub fn table(random: &mut Random, points: &[i32]) -> Vec<i32> {
     let kind = random.below(5);
     let barred = if random.one_in(2) { usize::MAX } else { 2 + random.below(12) };
     let mut entry_of = |f: &Four| {

@@ -2,10 +2,9 @@
 //! buffer, whatever its length. The search on the ring's job has no lower worst quality.
 use super::{refusals, Group, Part};
 use crate::calls;
+use crate::jobs::table;
 use crate::lent::Room;
 use crate::random::Random;
-use crate::reference::job::fours;
-use crate::reference::measure::entry;
 use crate::reference::rings::{remove_edge, Removed, Ring};
 use crate::tally::{refusal, Tally};
 use cottontuff::{Filling, Job, Number};
@@ -70,25 +69,6 @@ fn around(random: &mut Random, size: usize) -> Vec<[i32; 3]> {
         .collect();
     places.extend([[moved(0.0) / 2, moved(0.0) / 2, high], [moved(0.0) / 2, moved(0.0) / 2, -high]]);
     places
-}
-
-/// Entries with ties and without, some barred, flat fours mostly unmeasured.
-fn table(random: &mut Random, points: &[i32]) -> Vec<i32> {
-    let (kind, barred) = (random.below(5), random.any(&[3, 10, 1_000_000]));
-    let mut entry_of = |four: &[usize; 4]| {
-        let coordinates: Vec<i32> = four.iter().flat_map(|p| points[3 * p..3 * p + 3].to_vec()).collect();
-        let measured = entry(&coordinates);
-        match kind {
-            _ if measured == -1 => random.any(&[-1, -1, -1, 0, 1, 1_000_000]),
-            _ if random.one_in(barred) => 0,
-            0 => 1,
-            1 => random.within(1, 2),
-            2 => random.within(1, 4) * 250_000,
-            3 => random.within(1, 1_000_000),
-            _ => measured,
-        }
-    };
-    fours(points.len() / 3).iter().map(&mut entry_of).collect()
 }
 
 /// The places numbered by chance.
