@@ -1,12 +1,14 @@
 -- THE TABLES: one computed test, over all ring sizes from 3 to 7. Assumes nothing.
 use mathlib.Core.Path.{_≡_, refl, ap}
 use mathlib.Core.List.{List, [], _∷_, map}
-use Prim.Native.Nat.{ℕ, _≤_, _<_}
+use Prim.Native.Nat.{ℕ, _-_, _≤_, _<_}
 use native.Mathlib.Omega.{arith}
 use native.Mathlib.Decide.{decLt}
 use lib.ListN.{length, getD}
 use Rattle.laws.specs.Fours.{from, rest}
 use Rattle.triangulations.specs.Rings.{triple, chords-cross, crosses-side, overlap, with-each, all-triples, without-overlap, choices, rows, row-numbers, numbers}
+use Rattle.triangulations.proofs.Choices.{rows-long}
+use Rattle.triangulations.proofs.Numbers.{numbers-long}
 
 -- what src/table.rt has
 abbrev pub ring-3 : List ℕ
@@ -75,13 +77,36 @@ pub is-7 : numbers (rows 7) ≡ ring-7
 unfolding from
 is-7 = table-of 4
 
--- how many rows each has
-counts : map (λ k. length (rows k)) (from 5 3) ≡ 1 ∷ 2 ∷ 5 ∷ 14 ∷ 42 ∷ []
-unfolding from rest triple chords-cross crosses-side overlap with-each all-triples without-overlap choices rows
-counts = refl
+-- how many rows each has: a row of a ring of k has 3 (k - 2) numbers
+pub count-3 : length (rows 3) ≡ 1
+count-3 =
+    let e = numbers-long (3 - 2) (rows-long 3) in
+    let d : length (numbers (rows 3)) ≡ 3 = ap length is-3 in
+    omega arith
 
-pub count-of : (i : ℕ) → getD (map (λ k. length (rows k)) (from 5 3)) i 0 ≡ getD (1 ∷ 2 ∷ 5 ∷ 14 ∷ 42 ∷ []) i 0
-count-of i = ap (λ (cs : List ℕ). getD cs i 0) counts
+pub count-4 : length (rows 4) ≡ 2
+count-4 =
+    let e = numbers-long (4 - 2) (rows-long 4) in
+    let d : length (numbers (rows 4)) ≡ 12 = ap length is-4 in
+    omega arith
+
+pub count-5 : length (rows 5) ≡ 5
+count-5 =
+    let e = numbers-long (5 - 2) (rows-long 5) in
+    let d : length (numbers (rows 5)) ≡ 45 = ap length is-5 in
+    omega arith
+
+pub count-6 : length (rows 6) ≡ 14
+count-6 =
+    let e = numbers-long (6 - 2) (rows-long 6) in
+    let d : length (numbers (rows 6)) ≡ 168 = ap length is-6 in
+    omega arith
+
+pub count-7 : length (rows 7) ≡ 42
+count-7 =
+    let e = numbers-long (7 - 2) (rows-long 7) in
+    let d : length (numbers (rows 7)) ≡ 630 = ap length is-7 in
+    omega arith
 
 -- the longest table has 630 numbers
 pub few-numbers : (k : ℕ) → 3 ≤ k → k ≤ 7 → length (numbers (rows k)) ≤ 630
