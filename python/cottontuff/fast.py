@@ -1,0 +1,418 @@
+"""The same as `cavity`, over helper.c: growth, jobs and exchanges in flat arrays. `engine` gives this one where the helper was built, else the plain one; with COTTONTUFF_PURE=1 always the plain one.
+
+An engine has one open cavity at a time. `open`, `grow` and `prepare` lead to its job, `search` and `judge_own` ask the kernel, `recheck` and `exchange` put the answer in its place.
+"""
+from __future__ import annotations
+
+import ctypes
+import functools
+import os
+import pathlib
+from fractions import Fraction
+from typing import Any, Protocol, Union
+
+import numpy as np
+from numpy.typing import NDArray
+
+from . import cavity, exact, kernel
+from .cavity import Job, Options
+from .faults import Fault
+from .kernel import ANSWER_BYTES, MOST_FOURS, MOST_POINTS, RawFound, RawVerdict
+from .measures import Floats, Ints
+from .neighbours import Neighbours
+
+VERSION = 1
+_TRIANGLES, _TETS = 560, 512
+_MEASURES = {'shape': 0, 'gamma': 1}
+_GIVEN = 2
+_UNDECIDED = 2
+
+
+class Engine(Protocol):
+    """What `improve` and `record` work with."""
+
+    answer: NDArray[np.uint8]
+
+    def open(self, slot: int) -> None: ...
+    def close_on(self, slots: list[int], points: list[int]) -> None: ...
+    def grow(self, points: int) -> int: ...
+    def prepare(self) -> str | None: ...
+    def facts(self) -> tuple[bool, bool, int, float, int]: ...
+    def cavity_points(self) -> list[int]: ...
+    def cavity_tets(self) -> list[int]: ...
+    def job(self) -> Job: ...
+    def search(self) -> RawFound: ...
+    def judge_own(self) -> RawVerdict: ...
+    def judge_answer(self, count: int) -> RawVerdict: ...
+    def recheck(self, count: int) -> bool: ...
+    def exchange(self, count: int) -> list[int]: ...
+    def qualities(self) -> Floats: ...
+    def fours(self) -> Ints: ...
+    def touchable(self) -> NDArray[np.bool_]: ...
+    def quality_of(self, slots: list[int]) -> list[float]: ...
+    def own_fours(self) -> list[int]: ...
+    def signs(self) -> NDArray[np.int8]: ...
+    def regions(self) -> Ints: ...
+
+
+_P = ctypes.c_void_p
+
+
+class _Mesh(ctypes.Structure):
+    _fields_ = [(name, _P) for name in (
+        'points', 'corners', 'beside', 'region', 'sign', 'quality', 'head', 'next', 'previous', 'cavity_mark', 'around_mark', 'point_mark', 'local', 'line_start', 'line_end',
+    )] + [('slots', ctypes.c_int64), ('capacity', ctypes.c_int64)] + [(name, ctypes.c_int32) for name in ('mark', 'step', 'limit', 'measure', 'ranked')]
+
+
+class _Cavity(ctypes.Structure):
+    _fields_ = [
+        ('tets', ctypes.c_int32 * _TETS), ('points', ctypes.c_int32 * MOST_POINTS), ('fresh', ctypes.c_int32 * MOST_FOURS),
+        *((name, ctypes.c_int32) for name in (
+            'tet_count', 'point_count', 'fresh_count', 'triangle_count', 'kept_count', 'inner_count', 'unsure_count', 'exact_count', 'worst_entry', 'own_allowed', 'agrees',
+        )),
+        ('worst', ctypes.c_double), ('xyz', ctypes.c_double * (3 * MOST_POINTS)), ('value', ctypes.c_double * MOST_FOURS),
+        ('coordinates', ctypes.c_int32 * (3 * MOST_POINTS)), ('full', ctypes.c_int32 * MOST_FOURS), ('table', ctypes.c_int32 * MOST_FOURS), ('unsure', ctypes.c_int32 * MOST_FOURS),
+        ('triangles', ctypes.c_uint8 * (3 * _TRIANGLES)), ('inner', ctypes.c_uint8 * (3 * _TRIANGLES)), ('kept', ctypes.c_uint8 * (MOST_POINTS * (MOST_POINTS - 1))),
+        ('own', ctypes.c_uint8 * (4 * _TETS)), ('sign', ctypes.c_int8 * MOST_FOURS), ('rounded', ctypes.c_int8 * MOST_FOURS),
+    ]
+
+
+@functools.lru_cache(maxsize=1)
+def helper() -> ctypes.CDLL | None:
+    """The helper, where it was built: the file that COTTONTUFF_HELPER names, else the one beside the package; None where there is none.
+
+    >>> helper() is None or helper().helper_version() == VERSION
+    True
+    """
+    path = os.environ.get('COTTONTUFF_HELPER') or str(pathlib.Path(__file__).resolve().parent / 'libcottontuff_helper.so')
+    if not os.path.exists(path):
+        return None
+    loaded = ctypes.CDLL(path)
+    loaded.helper_sizes.restype = ctypes.c_int64
+    if loaded.helper_version() != VERSION or loaded.helper_sizes(0) != ctypes.sizeof(_Mesh) or loaded.helper_sizes(1) != ctypes.sizeof(_Cavity):
+        raise Fault(f'{path}: this helper is of another version than the package; python/install builds both')
+    for name, answer, arguments in (
+        ('link', None, [_P]), ('open', None, [_P, _P, ctypes.c_int32]), ('grow', ctypes.c_int32, [_P, _P, ctypes.c_int32]), ('prepare', ctypes.c_int32, [_P, _P]),
+        ('table', None, [_P, _P]), ('recheck', ctypes.c_int32, [_P, _P, ctypes.c_int32]), ('exchange', ctypes.c_int32, [_P, _P, _P, ctypes.c_int32]),
+        ('volume', ctypes.c_int32, [_P, ctypes.c_int64, _P, ctypes.c_int64, _P, _P]), ('reopen', ctypes.c_int32, [_P, _P, _P, ctypes.c_int32, _P, ctypes.c_int32]),
+    ):
+        function = getattr(loaded, 'helper_' + name)
+        function.restype, function.argtypes = answer, arguments
+    return loaded
+
+
+def is_pure() -> bool:
+    """Whether the plain form is asked for.
+
+    >>> is_pure() == (os.environ.get('COTTONTUFF_PURE', '') not in ('', '0'))
+    True
+    """
+    return os.environ.get('COTTONTUFF_PURE', '') not in ('', '0')
+
+
+def _address(array: NDArray[Any]) -> int:
+    return int(array.__array_interface__['data'][0])
+
+
+class FastEngine:
+    """The engine over helper.c."""
+
+    def __init__(self, of: Neighbours, options: Options, loaded: ctypes.CDLL) -> None:
+        self.options, self.helper, self.library = options, loaded, kernel.library()
+        self.answer = np.zeros(ANSWER_BYTES, np.uint8)
+        count, points = len(of.corners), len(of.points)
+        self.arrays: dict[str, NDArray[Any]] = {'points': np.ascontiguousarray(of.points, np.float64)}
+        self._slots(of, count + count // 4 + 64)
+        for name, fill in (('head', -1), ('point_mark', 0), ('local', 0)):
+            self.arrays[name] = np.full(points, fill, np.int32)
+        self.arrays['line_start'] = np.searchsorted(of.lines[:, 0], np.arange(points + 1)).astype(np.int32)
+        self.arrays['line_end'] = np.ascontiguousarray(of.lines[:, 1], np.int32)
+        self.mesh = _Mesh(slots=count, capacity=count + count // 4 + 64, limit=options.limit, ranked=options.ranked)
+        self.mesh.measure = _MEASURES[options.measure] if isinstance(options.measure, str) else _GIVEN
+        self._point()
+        self.at = ctypes.addressof(self.mesh)
+        self.cavity = _Cavity()
+        self.cavity_at = ctypes.addressof(self.cavity)
+        self._views()
+        loaded.helper_link(self.at)
+
+    def _slots(self, of: Neighbours, capacity: int) -> None:
+        count = len(of.corners)
+        for name, values, kind in (('corners', of.corners, np.int32), ('beside', of.beside, np.int32), ('region', of.region, np.int32), ('sign', np.where(of.kind == 0, of.sign, 0), np.int8)):
+            room = np.full((capacity, *values.shape[1:]), -1 if kind == np.int32 else 0, kind)
+            room[:count] = values
+            self.arrays[name] = room
+        self.arrays['quality'] = np.zeros(capacity)
+        self.arrays['quality'][:count] = self.options.values(of.points[of.corners])
+        for name, rows in (('next', 4), ('previous', 4), ('cavity_mark', 1), ('around_mark', 1)):
+            self.arrays[name] = np.zeros(rows * capacity, np.int32)
+
+    def _point(self) -> None:
+        for name, array in self.arrays.items():
+            setattr(self.mesh, name, _address(array))
+
+    def _views(self) -> None:
+        """Arrays over the cavity's fields, and the addresses that the kernel is called with."""
+        self.view: dict[str, NDArray[Any]] = {name: np.frombuffer(getattr(self.cavity, name), kind._type_) for name, kind, *_ in _Cavity._fields_ if hasattr(kind, '_length_')}  # type: ignore[attr-defined]
+        self.where = {name: _address(view) for name, view in self.view.items()}
+        self.answer_at = _address(self.answer)
+
+    def _enlarge(self) -> None:
+        capacity = 2 * int(self.mesh.capacity)
+        for name in ('corners', 'beside', 'region', 'sign', 'quality', 'next', 'previous', 'cavity_mark', 'around_mark'):
+            old = self.arrays[name]
+            room = np.zeros((2 * len(old), *old.shape[1:]), old.dtype)
+            room[: len(old)] = old
+            self.arrays[name] = room
+        self.mesh.capacity = capacity
+        self._point()
+
+    def open(self, slot: int) -> None:
+        self.helper.helper_open(self.at, self.cavity_at, slot)
+
+    def close_on(self, slots: list[int], points: list[int]) -> None:
+        """Opens the cavity of these slots and points."""
+        tets, corners = np.array(slots, np.int32), np.array(points, np.int32)
+        if self.helper.helper_reopen(self.at, self.cavity_at, _address(tets), len(tets), _address(corners), len(corners)):
+            raise ValueError('no cavity: over 512 tetrahedra or 16 points')
+
+    def grow(self, points: int) -> int:
+        return int(self.helper.helper_grow(self.at, self.cavity_at, points))
+
+    def prepare(self) -> str | None:
+        """Makes the job; None, or why it can't be made."""
+        if self.helper.helper_prepare(self.at, self.cavity_at):
+            return 'too small or too large for doubles'
+        held = self.cavity
+        if held.unsure_count:
+            self._decide()
+        if self.mesh.measure == _GIVEN:
+            n = held.point_count
+            every = cavity.fours(n)
+            self.view['value'][: len(every)] = self.options.values(self.view['xyz'][: 3 * n].reshape(-1, 3)[every])
+        self.helper.helper_table(self.at, self.cavity_at)
+        return None
+
+    def _decide(self) -> None:
+        """Signs that need more bits than the helper has."""
+        n = self.cavity.point_count
+        whole, _ = exact.whole_numbers(self.view['xyz'][: 3 * n].reshape(-1, 3))
+        for place in self.view['unsure'][: self.cavity.unsure_count].tolist():
+            a, b, c, d = cavity.fours(n)[place].tolist()
+            volume = exact.six_volume(whole, (a, b, c, d))
+            self.view['sign'][place] = (volume > 0) - (volume < 0)
+
+    def facts(self) -> tuple[bool, bool, int, float, int]:
+        """own_allowed, agrees, worst_entry, worst and exact_signs of the job."""
+        held = self.cavity
+        return bool(held.own_allowed), bool(held.agrees), held.worst_entry, held.worst, held.exact_count
+
+    def cavity_points(self) -> list[int]:
+        points: list[int] = self.view['points'][: self.cavity.point_count].tolist()
+        return points
+
+    def cavity_tets(self) -> list[int]:
+        tets: list[int] = self.view['tets'][: self.cavity.tet_count].tolist()
+        return tets
+
+    def job(self) -> Job:
+        held, view, n = self.cavity, self.view, self.cavity.point_count
+        count = len(cavity.fours(n))
+
+        def part(name: str, rows: int, width: int) -> NDArray[Any]:
+            return view[name][: rows * width].reshape(rows, width).copy()
+
+        return Job(
+            view['points'][:n].astype(np.int64), part('xyz', n, 3), part('coordinates', n, 3), part('triangles', held.triangle_count, 3), part('kept', held.kept_count, 2),
+            part('inner', held.inner_count, 3), view['full'][:count].copy(), view['table'][:count].copy(), view['sign'][:count].copy(), view['rounded'][:count].copy(),
+            view['value'][:count].copy(), part('own', held.tet_count, 4), held.worst, held.worst_entry, bool(held.own_allowed), bool(held.agrees), held.exact_count,
+        )
+
+    def _lists(self, table: str) -> tuple[int, ...]:
+        held, where, n = self.cavity, self.where, self.cavity.point_count
+        return (
+            where['coordinates'], 3 * n, where['triangles'], 3 * held.triangle_count, where['kept'], 2 * held.kept_count,
+            where['inner'], 3 * held.inner_count, where[table], n * (n - 1) * (n - 2) * (n - 3) // 24,
+        )
+
+    def search(self) -> RawFound:
+        found: RawFound = self.library.cottontuff_search_inner(*self._lists('table'), self.answer_at, ANSWER_BYTES)
+        return found
+
+    def judge_own(self) -> RawVerdict:
+        verdict: RawVerdict = self.library.cottontuff_judge_inner(*self._lists('full'), self.where['own'], 4 * self.cavity.tet_count)
+        return verdict
+
+    def judge_answer(self, count: int) -> RawVerdict:
+        verdict: RawVerdict = self.library.cottontuff_judge_inner(*self._lists('full'), self.answer_at, 4 * count)
+        return verdict
+
+    def recheck(self, count: int) -> bool:
+        said = self.helper.helper_recheck(self.cavity_at, self.answer_at, count)
+        if said == _UNDECIDED:
+            return cavity.recheck(self.job(), self.answer[: 4 * count].reshape(-1, 4))
+        return bool(said == 0)
+
+    def exchange(self, count: int) -> list[int]:
+        while self.helper.helper_exchange(self.at, self.cavity_at, self.answer_at, count):
+            self._enlarge()
+        fresh: list[int] = self.view['fresh'][: self.cavity.fresh_count].tolist()
+        return fresh
+
+    def qualities(self) -> Floats:
+        """The quality in each slot."""
+        return self.arrays['quality'][: self.mesh.slots].copy()
+
+    def fours(self) -> Ints:
+        """The corners in each slot, the first of them -1 where it is empty."""
+        return self.arrays['corners'][: self.mesh.slots].astype(np.int64)
+
+    def touchable(self) -> NDArray[np.bool_]:
+        """Whether the slot has a tetrahedron that may be touched."""
+        flags: NDArray[np.bool_] = self.arrays['sign'][: self.mesh.slots] != 0
+        return flags
+
+    def quality_of(self, slots: list[int]) -> list[float]:
+        return [float(self.arrays['quality'][slot]) for slot in slots]
+
+    def own_fours(self) -> list[int]:
+        """The cavity's tetrahedra as fours of its points' places, one after another."""
+        own: list[int] = self.view['own'][: 4 * self.cavity.tet_count].tolist()
+        return own
+
+    def signs(self) -> NDArray[np.int8]:
+        return self.arrays['sign'][: self.mesh.slots].copy()
+
+    def regions(self) -> Ints:
+        return self.arrays['region'][: self.mesh.slots].astype(np.int64)
+
+
+class PlainEngine:
+    """The engine over `cavity`."""
+
+    def __init__(self, of: Neighbours, options: Options) -> None:
+        self.mesh = cavity.Tetrahedra(of, options)
+        self.library = kernel.library()
+        self.answer = np.zeros(ANSWER_BYTES, np.uint8)
+        self.held: cavity.Cavity
+        self.made: Job
+
+    def open(self, slot: int) -> None:
+        self.held = self.mesh.open(slot)
+
+    def close_on(self, slots: list[int], points: list[int]) -> None:
+        """Opens the cavity of these slots and points."""
+        self.held = cavity.Cavity(self.mesh, tuple(sorted(slots)), tuple(sorted(points)))
+
+    def grow(self, points: int) -> int:
+        while len(self.held.points) < points:
+            larger = cavity.grow(self.held)
+            if larger is None:
+                break
+            if len(larger.tets) > cavity.MOST_TETS:
+                return -1
+            self.held = larger
+        return len(self.held.points)
+
+    def prepare(self) -> str | None:
+        """Makes the job; None, or why it can't be made."""
+        xyz = self.mesh.points[list(self.held.points)]
+        half = float((xyz.max(0) - xyz.min(0)).max()) / 2
+        if not exact.SMALLEST < half < exact.LARGEST:
+            return 'too small or too large for doubles'
+        self.made = cavity.job(self.held)
+        return None
+
+    def facts(self) -> tuple[bool, bool, int, float, int]:
+        """own_allowed, agrees, worst_entry, worst and exact_signs of the job."""
+        made = self.made
+        return made.own_allowed, made.agrees, made.worst_entry, made.worst, made.exact_signs
+
+    def cavity_points(self) -> list[int]:
+        return list(self.held.points)
+
+    def cavity_tets(self) -> list[int]:
+        return list(self.held.tets)
+
+    def job(self) -> Job:
+        return self.made
+
+    def _lists(self, table: NDArray[np.int32]) -> list[int]:
+        made = self.made
+        arrays: list[NDArray[Any]] = [made.coordinates, made.triangles, made.kept, made.inner, table]
+        return [part for array in arrays for part in (_address(array), array.size)]
+
+    def search(self) -> RawFound:
+        found: RawFound = self.library.cottontuff_search_inner(*self._lists(self.made.table), _address(self.answer), ANSWER_BYTES)
+        return found
+
+    def judge_own(self) -> RawVerdict:
+        verdict: RawVerdict = self.library.cottontuff_judge_inner(*self._lists(self.made.full), _address(self.made.own), self.made.own.size)
+        return verdict
+
+    def judge_answer(self, count: int) -> RawVerdict:
+        verdict: RawVerdict = self.library.cottontuff_judge_inner(*self._lists(self.made.full), _address(self.answer), 4 * count)
+        return verdict
+
+    def recheck(self, count: int) -> bool:
+        return cavity.recheck(self.made, self.answer[: 4 * count].reshape(-1, 4))
+
+    def exchange(self, count: int) -> list[int]:
+        return cavity.exchange(self.held, self.made, self.answer[: 4 * count].reshape(-1, 4))
+
+    def qualities(self) -> Floats:
+        """The quality in each slot."""
+        return np.array(self.mesh.quality)
+
+    def fours(self) -> Ints:
+        """The corners in each slot, the first of them -1 where it is empty."""
+        return np.array([(-1, -1, -1, -1) if four is None else four for four in self.mesh.corners], np.int64).reshape(-1, 4)
+
+    def touchable(self) -> NDArray[np.bool_]:
+        """Whether the slot has a tetrahedron that may be touched."""
+        return np.array(self.mesh.sign, np.int8).astype(np.bool_)
+
+    def quality_of(self, slots: list[int]) -> list[float]:
+        return [self.mesh.quality[slot] for slot in slots]
+
+    def own_fours(self) -> list[int]:
+        """The cavity's tetrahedra as fours of its points' places, one after another."""
+        own: list[int] = self.made.own.reshape(-1).tolist()
+        return own
+
+    def signs(self) -> NDArray[np.int8]:
+        return np.array(self.mesh.sign, np.int8)
+
+    def regions(self) -> Ints:
+        return np.array(self.mesh.region, np.int64)
+
+
+def engine(of: Neighbours, options: Options = Options()) -> Union[FastEngine, PlainEngine]:
+    """The engine for a mesh.
+
+    >>> made = engine(cavity.two_beside())
+    >>> made.open(0)
+    >>> made.grow(16), made.cavity_points()
+    (5, [0, 1, 2, 3, 4])
+    """
+    loaded = None if is_pure() else helper()
+    return PlainEngine(of, options) if loaded is None else FastEngine(of, options, loaded)
+
+
+def volume6(points: Floats, tets: Ints) -> Fraction:
+    """`exact.volume6`, by the helper where the coordinates fit it.
+
+    >>> volume6(np.array([[0, 0, 0], [.5, 0, 0], [0, .5, 0], [0, 0, .5]]), np.array([[0, 1, 2, 3]]))
+    Fraction(1, 8)
+    """
+    loaded = None if is_pure() else helper()
+    used, local = np.unique(tets, return_inverse=True)
+    if loaded is not None and len(used):
+        xyz = np.ascontiguousarray(points[used])
+        rows = np.ascontiguousarray(local.reshape(-1, 4), np.int64)
+        room, limbs = np.zeros(6 * len(used), np.uint64), np.zeros(6, np.uint64)
+        if loaded.helper_volume(_address(xyz), len(used), _address(rows), len(rows), _address(room), _address(limbs)) == 0:
+            total = sum(int(limb) << (64 * i) for i, limb in enumerate(limbs.tolist()))
+            low = int(np.frexp(xyz[xyz != 0])[1].min()) - 53 if xyz.any() else 0
+            return Fraction(total) * Fraction(2) ** (3 * low)
+    return exact.volume6(points, tets)

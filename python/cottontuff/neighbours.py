@@ -1,0 +1,145 @@
+"""Which tetrahedra lie side by side: what growth and exchange need to know of a mesh, worked out once from its arrays.
+
+A face is passable where a cavity may grow over it: two tetrahedra of one region have it, from its two sides, and the file has no triangle there. Flat tetrahedra, and those that have a face on the
+same side as another, are not touched: no cavity has them. Of the latter those are called turned whose corners stand the other way round than most of the file's.
+"""
+from __future__ import annotations
+
+import dataclasses
+
+import numpy as np
+from numpy.typing import NDArray
+
+from . import exact
+from .measures import Floats, Ints
+from .mesh import Mesh
+
+# Corner i of an ascending four is opposite face i; with D positive that face looks outward in ascending order for even i, reversed for odd.
+OPPOSITE = ((1, 2, 3), (0, 2, 3), (0, 1, 3), (0, 1, 2))
+DIRECTION = (1, -1, 1, -1)
+SOUND, FLAT, TURNED, OVERLAPPING, EMPTY = 0, 1, 2, 3, 4
+KINDS = {FLAT: 'flat', TURNED: 'turned', OVERLAPPING: 'overlapping'}
+Flags = NDArray[np.int8]
+
+
+@dataclasses.dataclass
+class Neighbours:
+    """A mesh for growth. Corners stand ascending; sign is that of D in this order, exact; beside has the tetrahedron over each face, or -1 where none can be passed to."""
+
+    points: Floats
+    corners: Ints
+    sign: Flags
+    region: Ints
+    beside: Ints
+    kind: Flags
+    lines: Ints
+    shut: Ints  # the file's triangles, ascending: no cavity grows over them
+    handed: int  # 1 where most of the file's tetrahedra have D > 0 as they stand there, else -1
+
+    def untouched(self) -> dict[str, list[int]]:
+        """Which tetrahedra are not touched, by what is wrong with them.
+
+        >>> two = Mesh(np.array([[0., 0, 0], [1, 0, 0], [0, 1, 0], [1, 1, 0], [0, 0, 1]]), np.array([[0, 1, 2, 3], [0, 1, 2, 4]]), np.array([1, 1]))
+        >>> neighbours(two).untouched()
+        {'flat': [0], 'turned': [], 'overlapping': []}
+        """
+        return {name: np.flatnonzero(self.kind == kind).tolist() for kind, name in KINDS.items()}
+
+
+def face_keys(faces: Ints, points: int) -> Ints:
+    """One number for each triangle of ascending point numbers.
+
+    >>> face_keys(np.array([[0, 1, 2], [0, 1, 3]]), 10).tolist()
+    [12, 13]
+    """
+    if points < 2_000_000:  # three numbers below that fit into 63 bits
+        keys: Ints = (faces[:, 0] * points + faces[:, 1]) * points + faces[:, 2]
+        return keys
+    _, inverse = np.unique(faces, axis=0, return_inverse=True)
+    return inverse.reshape(-1).astype(np.int64)
+
+
+def parity(tets: Ints) -> Flags:
+    """1 for rows that an even number of exchanges sorts, -1 for the others.
+
+    >>> parity(np.array([[0, 1, 2, 3], [1, 0, 2, 3], [3, 2, 1, 0]])).tolist()
+    [1, -1, 1]
+    """
+    odd = np.zeros(len(tets), np.int64)
+    for i in range(4):
+        for j in range(i):
+            odd += tets[:, j] > tets[:, i]
+    signs: Flags = (1 - 2 * (odd % 2)).astype(np.int8)
+    return signs
+
+
+def _all_faces(corners: Ints) -> Ints:
+    return np.concatenate([corners[:, list(face)] for face in OPPOSITE])
+
+
+def _kinds(sign: Flags, keys: Ints, order: Ints, against: NDArray[np.bool_]) -> Flags:
+    """What is wrong with each tetrahedron: flat, or a face that another has on the same side. order sorts the keys."""
+    count = len(sign)
+    kind = np.where(sign == 0, FLAT, SOUND).astype(np.int8)
+    direction = np.concatenate([sign * way for way in DIRECTION])[order]
+    new = np.append(True, keys[order[1:]] != keys[order[:-1]]) if len(order) else np.zeros(0, bool)
+    group = np.cumsum(new) - 1
+    often = np.maximum(np.bincount(group, direction > 0), np.bincount(group, direction < 0))
+    doubled = np.unique(order[often[group] > 1] % count)
+    doubled = doubled[sign[doubled] != 0]
+    kind[doubled] = np.where(against[doubled], TURNED, OVERLAPPING)
+    return kind
+
+
+def _beside(kind: Flags, region: Ints, keys: Ints, order: Ints, tagged: Ints) -> Ints:
+    """For each tetrahedron and each of its faces the tetrahedron that a cavity may grow to, or -1. order sorts the keys."""
+    count = len(kind)
+    beside = np.full(4 * count, -1, np.int64)
+    order = order[kind[order % count] == SOUND]
+    first, second = order[:-1], order[1:]
+    pairs = (keys[first] == keys[second]) & (region[first % count] == region[second % count])
+    first, second = first[pairs], second[pairs]
+    if len(tagged):
+        place = np.minimum(np.searchsorted(tagged, keys[first]), len(tagged) - 1)
+        free = tagged[place] != keys[first]
+        first, second = first[free], second[free]
+    beside[first], beside[second] = second % count, first % count
+    return np.ascontiguousarray(beside.reshape(4, count).T)
+
+
+def neighbours(mesh: Mesh) -> Neighbours:
+    """The neighbours of a mesh's tetrahedra.
+
+    >>> two = Mesh(np.array([[0., 0, 0], [1, 0, 0], [0, 1, 0], [0, 0, 1], [0, 0, -1]]), np.array([[0, 1, 2, 3], [0, 2, 1, 4]]), np.array([7, 7]))
+    >>> neighbours(two).beside.tolist()
+    [[-1, -1, -1, 1], [-1, -1, -1, 0]]
+    """
+    corners = np.sort(mesh.tets, axis=1)
+    sign = exact.signs(mesh.points, corners)
+    in_file = sign * parity(mesh.tets)
+    handed = 1 if int((in_file > 0).sum()) >= int((in_file < 0).sum()) else -1
+    _, region = np.unique(mesh.regions, return_inverse=True)
+    shut = np.sort(mesh.faces, axis=1).reshape(-1, 3)
+    own, order, tagged = _keys(corners, shut, len(mesh.points))
+    kind = _kinds(sign, own, order, in_file == -handed)
+    lines = np.unique(np.sort(mesh.lines, axis=1), axis=0).reshape(-1, 2).astype(np.int64)
+    return Neighbours(mesh.points, corners, sign, region.astype(np.int64), _beside(kind, region, own, order, tagged), kind, lines, shut, handed)
+
+
+def _keys(corners: Ints, shut: Ints, points: int) -> tuple[Ints, Ints, Ints]:
+    """The keys of all faces, the order that sorts them, and the keys of the triangles that can't be passed."""
+    keys = face_keys(np.concatenate([_all_faces(corners), shut]), points)
+    own = keys[: 4 * len(corners)]
+    return own, np.argsort(own, kind='stable'), np.unique(keys[4 * len(corners):])
+
+
+def rejoined(of: Neighbours, corners: Ints, sign: Flags, region: Ints, kind: Flags) -> Neighbours:
+    """The neighbours of other tetrahedra on the same points; those of the kind EMPTY are none.
+
+    >>> two = Mesh(np.array([[0., 0, 0], [1, 0, 0], [0, 1, 0], [0, 0, 1], [0, 0, -1]]), np.array([[0, 1, 2, 3], [0, 2, 1, 4]]), np.array([7, 7]))
+    >>> of = neighbours(two)
+    >>> rejoined(of, of.corners, of.sign, of.region, np.array([SOUND, EMPTY], np.int8)).beside.tolist()
+    [[-1, -1, -1, -1], [-1, -1, -1, -1]]
+    """
+    own, order, tagged = _keys(corners, of.shut, len(of.points))
+    return dataclasses.replace(of, corners=corners, sign=sign, region=region, beside=_beside(kind, region, own, order, tagged), kind=kind)
