@@ -89,4 +89,9 @@ def format_of(path: Path, format: str | None) -> str:
 
 
 def partner_of(path: pathlib.Path) -> pathlib.Path:
+    """The other of tetgen's two files.
+
+    >>> str(partner_of(pathlib.Path('part.node')))
+    'part.ele'
+    """
     return path.with_suffix('.ele' if path.suffix == '.node' else '.node')

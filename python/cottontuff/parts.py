@@ -134,7 +134,12 @@ def run(
     mesh: Mesh, of: Neighbours, options: Options, below: float, sizes: Sequence[int], passes: int | None, jobs: int, note: Callable[[Exchange], None],
     progress: Progress | None, stop: Callable[[], bool],
 ) -> Run:
-    """Betters the parts at the same time, then what the cuts hindered; the last run, with the counts of all."""
+    """Betters the parts at the same time, then what the cuts hindered; the last run, with the counts of all.
+
+    >>> from .improve import example, improve
+    >>> improve(example(), below=0.9, jobs=2).report['exchanges']
+    1
+    """
     count = min(jobs, max(1, len(of.corners) // 8))
     parts = bisect(of.points[of.corners].mean(axis=1), np.arange(len(of.corners)), count)
     shown = multiprocessing.get_context('fork').RawArray('d', 3 * count)

@@ -142,6 +142,11 @@ def _native(array: Array) -> Array:
 
 
 def check_points(path: pathlib.Path, points: Array) -> Floats:
+    """The points as doubles; a fault if one is not in space.
+
+    >>> check_points(pathlib.Path('part.msh'), np.array([[0, 0, 1]]))
+    array([[0., 0., 1.]])
+    """
     if points.ndim != 2 or points.shape[1] != 3:
         width = points.shape[1] if points.ndim == 2 else 0
         raise Fault(f'{path}: its points have {width} coordinates; 3 are needed')
@@ -154,7 +159,10 @@ def check_points(path: pathlib.Path, points: Array) -> Floats:
 
 
 def check_corners(path: pathlib.Path, kind: str, corners: Array, points: int) -> None:
-    """A fault if a cell names a point that is not there; rows are counted over the cells of the kind."""
+    """A fault if a cell names a point that is not there; rows are counted over the cells of the kind.
+
+    >>> check_corners(pathlib.Path('part.msh'), 'tetra', np.array([[0, 1, 2, 3]]), 4)
+    """
     wrong = np.argwhere((corners < 0) | (corners >= points))
     if len(wrong):
         row, column = wrong[0]
@@ -171,6 +179,11 @@ def _check_tets(path: pathlib.Path, tets: Ints) -> None:
 
 
 def is_whole(values: Array) -> bool:
+    """Whether data are whole numbers, one for each cell, and so may be regions.
+
+    >>> is_whole(np.array([1.0, 2.0])), is_whole(np.array([0.5]))
+    (True, False)
+    """
     if values.ndim != 1 or values.dtype.kind not in 'iuf':
         return False
     return values.dtype.kind != 'f' or bool(np.all(np.isfinite(values)) and np.all(values == np.round(values)) and np.all(np.abs(values) < 2**62))
@@ -184,6 +197,11 @@ def _joined(blocks: list[Block], kind: str, width: int) -> Ints:
 
 
 def tet_data(blocks: list[Block], name: str) -> Array:
+    """The data of all tetrahedra, in the file's order.
+
+    >>> tet_data([Block('tetra', np.array([[0, 1, 2, 3]]), {'region': np.array([7])})], 'region')
+    array([7])
+    """
     values: Array = np.concatenate([block.data[name] for block in blocks if block.kind == 'tetra'])
     return values
 

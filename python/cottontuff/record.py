@@ -108,7 +108,14 @@ class Writer:
 
 
 def lines(path: str | os.PathLike[str]) -> Iterator[tuple[int, dict[str, Any]]]:
-    """The lines of a record with their numbers, from 1."""
+    """The lines of a record with their numbers, from 1.
+
+    >>> import tempfile
+    >>> with tempfile.TemporaryDirectory() as folder:
+    ...     _ = open(folder + '/record', 'w').write('{"end":0}')
+    ...     list(lines(folder + '/record'))
+    [(1, {'end': 0})]
+    """
     name = os.fspath(path)
     try:
         with gzip.open(name, 'rt') if name.endswith('.gz') else open(name) as file:
@@ -262,6 +269,29 @@ def _same_besides(before: Mesh, after: Mesh) -> list[str]:
     return wrong
 
 
+def _replayed(replay: Replay, steps: Iterator[tuple[int, dict[str, Any]]], said: Verified, output: str, progress: Callable[[int], None] | None) -> bool:
+    """Replays the lines behind the first, up to one that does not hold; whether there was a last line."""
+    ended = False
+    for number, what in steps:
+        if ended or 'end' in what:
+            if ended or what['end'] != said.replacements or what.get('output') != output:
+                said.wrong.append(f'line {number}: the record does not end as its last line says')
+                return True
+            ended = True
+            continue
+        try:
+            if what.get('n') != said.replacements + 1:
+                raise ValueError(f"it has the number {what.get('n')}, and {said.replacements + 1} is due")
+            said.carries_over += replay.step(what)
+        except ValueError as fault:
+            said.wrong.append(f'line {number}: {fault}')
+            return True
+        said.replacements += 1
+        if progress is not None:
+            progress(said.replacements)
+    return ended
+
+
 def verify(
     before: Mesh, after: Mesh, path: str | os.PathLike[str], *, search: bool = False, measure: MeasureName | None = None, progress: Callable[[int], None] | None = None,
 ) -> Verified:
@@ -284,24 +314,9 @@ def verify(
         said.wrong.append('the record starts from another mesh')
     if said.wrong:
         return said
-    ended = False
-    for number, what in steps:
-        if ended or 'end' in what:
-            if ended or what['end'] != said.replacements or what.get('output') != digest(after):
-                said.wrong.append(f'line {number}: the record does not end as its last line says')
-                return said
-            ended = True
-            continue
-        try:
-            if what.get('n') != said.replacements + 1:
-                raise ValueError(f"it has the number {what.get('n')}, and {said.replacements + 1} is due")
-            said.carries_over += replay.step(what)
-        except ValueError as fault:
-            said.wrong.append(f'line {number}: {fault}')
-            return said
-        said.replacements += 1
-        if progress is not None:
-            progress(said.replacements)
+    ended = _replayed(replay, steps, said, digest(after), progress)
+    if said.wrong:
+        return said
     if not ended:
         said.wrong.append('the record has no last line')
     elif not replay.ends_in(after):
