@@ -19,7 +19,8 @@ help:
 	@echo 'make             the library, static and shared, target/cottontuff.pc, the programs, the examples in C'
 	@echo 'make check       the gate: proves all from nothing (.ci/run, some 30 minutes)'
 	@echo 'make test        the tests outside the prover (tests/run)'
-	@echo 'make install     into PREFIX (default /usr/local; DESTDIR before it): libraries, header, pkg-config file, programs, manual pages, guide, Rust crate'
+	@echo 'make install     into PREFIX (default /usr/local; DESTDIR before it): libraries, header, pkg-config file, programs, manual pages, guide, Rust crate, sources of the Python package'
+	@echo '                 python/install PREFIX installs that package, and what it needs of Debian'
 	@echo 'make uninstall   takes them out again'
 	@echo 'make dist        target/$(package).tar.gz with its checksum: installs without the kit'
 	@echo 'make clean       removes target/'
@@ -70,6 +71,11 @@ install: all
 	install -m 644 man/*.1 $(to)/share/man/man1
 	install -m 644 docs/GUIDE.md CHANGELOG.md $(to)/share/doc/cottontuff
 	install -m 644 rust/Cargo.toml rust/build.rs rust/cottontuff.rs $(to)/share/cottontuff/rust
+	install -d $(to)/share/cottontuff/python/cottontuff
+	install -m 644 python/cottontuff/*.py python/cottontuff/py.typed $(to)/share/cottontuff/python/cottontuff
+	install -m 644 python/helper.c python/cottontuff.1 $(to)/share/cottontuff/python
+	install -m 755 python/install $(to)/share/cottontuff/python
+	install -m 644 docs/MESHES.md docs/PYTHON.md docs/CARRYING.md $(to)/share/doc/cottontuff
 
 uninstall:
 	rm -f $(to)/lib/libcottontuff.a $(to)/lib/libcottontuff.so $(to)/lib/$(SONAME) $(to)/lib/libcottontuff.so.$(VERSION) $(to)/lib/pkgconfig/cottontuff.pc

@@ -102,6 +102,7 @@ def overhear() -> Iterator[Overheard]:
     for module in (_gmsh22, _gmsh41):
         changed += [(module, '_read_physical_names', lambda original: _hear_names(found, original)), (module, '_read_data', lambda original: _hear_data(found, original)),
                     (module, 'cell_data_from_raw', lambda original: _hear_cell_data(found, original))]
+    changed = [(module, name, change) for module, name, change in changed if hasattr(module, name)]  # another meshio may name its parts otherwise: then it reads as it does
     before = [(module, name, getattr(module, name)) for module, name, _ in changed]
     try:
         for module, name, change in changed:
