@@ -22,7 +22,7 @@ class Target:
     lines: list[str]
 
     def no_place(self, what: str) -> None:
-        line = f'{what}: {self.format} has no place for it'
+        line = f"{what}: {self.format} has no place for {'them' if ' cells ' in what else 'it'}"
         if line not in self.lines:
             self.lines.append(line)
 

@@ -14,7 +14,7 @@ from numpy.typing import NDArray
 
 from . import exact
 from .kernel import FURTHEST, MOST_POINTS
-from .measures import MEASURES, Floats, Ints, MeasureName, millionths, six_volumes
+from .measures import Floats, Ints, MeasureName, millionths, named, six_volumes
 from .neighbours import DIRECTION, OPPOSITE, Neighbours
 
 Four = tuple[int, int, int, int]
@@ -36,8 +36,7 @@ class Options:
         >>> Options().values(np.array([[[0, 0, 0], [1, 0, 0], [0, 1, 0], [0, 0, 1]]], float))
         array([592592.])
         """
-        of = MEASURES[self.measure] if isinstance(self.measure, str) else self.measure
-        found = np.asarray(of(corners), np.float64)
+        found = np.asarray(named(self.measure)(corners), np.float64)
         if found.shape != (len(corners),):
             raise ValueError(f'the measure gives an array of shape {found.shape} for {len(corners)} tetrahedra: one number for each is needed')
         if self.ranked:

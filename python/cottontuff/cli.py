@@ -131,7 +131,7 @@ class Interrupt:
 
     def _set(self, number: int, frame: object) -> None:
         if self.flag.value:
-            signal.signal(signal.SIGINT, signal.SIG_DFL)
+            raise KeyboardInterrupt
         self.flag.value = 1
 
     def __exit__(self, *_: object) -> None:
@@ -169,8 +169,10 @@ def do_improve(given: argparse.Namespace) -> int:
     for path in (given.output, given.record, given.report):
         if path:
             check_folder(path)
-    if os.path.exists(given.output) and os.path.exists(given.file) and os.path.samefile(given.file, given.output) and not given.force:
+    if not given.force and files_of(given.output) & files_of(given.file):
         raise Fault(f'{given.output}: OUT is IN, which is overwritten only with --force')
+    _apart(given.file, given.record, given.report, given.picture)
+    _apart(given.output, given.record, given.report, given.picture)
     if given.picture:
         check_picture(given.picture)
     mesh, reading = _seconds(lambda: read(given.file, format=given.format, region=given.region))
@@ -186,7 +188,7 @@ def do_improve(given: argparse.Namespace) -> int:
     if given.picture:
         histogram_picture(given.picture, before, after, os.path.basename(given.file), measure=given.measure)
     if not given.quiet:
-        print(improve_text(result.report), histogram_text(before, after), sep='\n\n')
+        print(improve_text(result.report).rstrip('\n'), histogram_text(before, after), sep='\n\n', end='')
     if result.report['interrupted']:
         print(f'cottontuff: interrupted: {given.output} has what was reached', file=sys.stderr)
         return INTERRUPTED
@@ -205,10 +207,32 @@ def _improved(given: argparse.Namespace, mesh: Mesh) -> Result:
         close()
 
 
+def files_of(path: str) -> set[str]:
+    """The files that a mesh is in: tetgen's has two.
+
+    >>> sorted(os.path.basename(file) for file in files_of('part.ele'))
+    ['part.ele', 'part.node']
+    """
+    stem, suffix = os.path.splitext(path)
+    both = [stem + '.node', stem + '.ele'] if suffix in ('.node', '.ele') else [path]
+    return {os.path.realpath(file) for file in both}
+
+
+def _apart(mesh: str, *others: str | None) -> None:
+    """Fault where one file would be written over another, or over the mesh."""
+    taken = files_of(mesh)
+    for path in others:
+        if path and path != '-':
+            if os.path.realpath(path) in taken:
+                raise Fault(f'{path}: it is named twice, or is a mesh that is read or written')
+            taken.add(os.path.realpath(path))
+
+
 def do_measure(given: argparse.Namespace) -> int:
     """measure IN"""
     if given.picture:
         check_picture(given.picture)
+        _apart(given.file, given.picture)
     mesh = read(given.file, format=given.format, region=given.region)
     print(json.dumps(measure_json(mesh, given.measure), indent=1) if given.json else measure_text(mesh, given.measure))
     if given.picture:
@@ -222,6 +246,9 @@ def _looked(given: argparse.Namespace, mesh: Mesh, tet: int) -> Look:
 
 def do_cavity(given: argparse.Namespace) -> int:
     """cavity IN --tet N"""
+    if given.output:
+        check_folder(given.output)
+        _apart(given.file, given.output)
     mesh = read(given.file, format=given.format, region=given.region)
     found = _looked(given, mesh, given.tet)
     if given.output:
@@ -237,6 +264,7 @@ def do_cavity(given: argparse.Namespace) -> int:
 def do_show(given: argparse.Namespace) -> int:
     """show IN --tet N -o FILE"""
     check_picture(given.output, also=('.vtu',))
+    _apart(given.file, given.output)
     mesh = read(given.file, format=given.format, region=given.region)
     if given.worst is not None and given.worst > len(mesh.tets):
         raise Fault(f'{given.file}: there is no {given.worst:,}th worst: it has {len(mesh.tets):,} tetrahedra')
@@ -258,9 +286,9 @@ def do_verify(given: argparse.Namespace) -> int:
         print(f'cottontuff: {given.record}: {wrong}', file=sys.stderr)
     if said.wrong:
         return REFUSED
-    worst = [int(millionths(quality(mesh.points, mesh.tets)).min()) for mesh in (before, after)]
+    worst = [int(millionths(quality(mesh.points, mesh.tets, said.measure)).min()) for mesh in (before, after)]
     also = ', and the search answers each of them' if given.search else ''
-    print(f'{said.replacements:,} replacements hold{also}; {said.carries_over:,} of them carry over to the doubles; the end is {given.output}; worst shape {worst[0]:,} to {worst[1]:,} millionths; {seconds:.2f} s')
+    print(f'{said.replacements:,} replacements hold{also}; {said.carries_over:,} of them carry over to the doubles; the end is {given.output}; worst {said.measure} {worst[0]:,} to {worst[1]:,} millionths; {seconds:.2f} s')
     return DONE
 
 
@@ -287,8 +315,8 @@ def main(arguments: Sequence[str] | None = None) -> int:
         print('cottontuff: the memory does not suffice for this mesh', file=sys.stderr)
         return REFUSED
     except BrokenPipeError:
-        os.dup2(os.open(os.devnull, os.O_WRONLY), sys.stdout.fileno())  # the reader of a pipe went away: nothing is left to say
-        return REFUSED
+        os.dup2(os.open(os.devnull, os.O_WRONLY), sys.stdout.fileno())  # the reader of a pipe went away; every file is written by then
+        return DONE
     except KeyboardInterrupt:
         print('cottontuff: interrupted', file=sys.stderr)
         return INTERRUPTED

@@ -84,11 +84,15 @@ def helper() -> ctypes.CDLL | None:
     >>> helper() is None or helper().helper_version() == VERSION
     True
     """
-    path = os.environ.get('COTTONTUFF_HELPER') or str(pathlib.Path(__file__).resolve().parent / 'libcottontuff_helper.so')
-    if not os.path.exists(path):
+    named = os.environ.get('COTTONTUFF_HELPER')
+    path = named or str(pathlib.Path(__file__).resolve().parent / 'libcottontuff_helper.so')
+    if not named and not os.path.exists(path):
         return None
-    loaded = ctypes.CDLL(path)
-    loaded.helper_sizes.restype = ctypes.c_int64
+    try:
+        loaded = ctypes.CDLL(path)
+        loaded.helper_sizes.restype = ctypes.c_int64
+    except (OSError, AttributeError) as fault:
+        raise Fault(f'the helper can\'t be loaded: {fault}') from fault
     if loaded.helper_version() != VERSION or loaded.helper_sizes(0) != ctypes.sizeof(_Mesh) or loaded.helper_sizes(1) != ctypes.sizeof(_Cavity):
         raise Fault(f'{path}: this helper is of another version than the package; python/install builds both')
     for name, answer, arguments in (

@@ -18,8 +18,8 @@ from . import fast
 from .cavity import Options
 from .faults import Fault
 from .kernel import FURTHEST, MOST_POINTS, NO_FILLING
-from .measures import MEASURES, MeasureName
-from .mesh import Mesh, boundary
+from .measures import MeasureName, named
+from .mesh import Mesh, boundary, checked
 from .neighbours import Neighbours, neighbours
 from .report import summarize
 
@@ -257,8 +257,7 @@ def _look_at(below: float, sizes: Sequence[int], measure: MeasureName, table: st
         raise ValueError(f'below: a quality above 0 and at most 1, not {below}')
     if not sizes or any(not isinstance(size, int) or not 5 <= size <= MOST_POINTS for size in sizes) or list(sizes) != sorted(set(sizes)):
         raise ValueError(f'sizes: rising whole numbers from 5 to {MOST_POINTS}, not {list(sizes)}')
-    if isinstance(measure, str) and measure not in MEASURES:
-        raise ValueError(f"measure: {' or '.join(MEASURES)}, or a function, not {measure!r}")
+    named(measure)
     if table not in ('millionths', 'rank'):
         raise ValueError(f"table: 'millionths' or 'rank', not {table!r}")
     if passes is not None and passes < 1:
@@ -323,11 +322,11 @@ def improve(
     >>> len(better.mesh.tets), better.report['before']['worst'], better.report['after']['worst']
     (3, 39551, 94014)
     """
-    limit = FURTHEST if limit is None else limit
+    mesh, limit = checked(mesh), FURTHEST if limit is None else limit
     _look_at(below, sizes, measure, table, passes, limit, jobs)
     from . import parts, record as records
     options = Options(measure, table == 'rank', limit)
-    start = time.process_time()
+    start, clock = time.process_time(), time.perf_counter()
     of = neighbours(mesh)
     setup = time.process_time() - start
     with records.Writer(record, mesh, options, below, sizes) as writer:
@@ -339,7 +338,8 @@ def improve(
         better = result_mesh(mesh, of, run)
         writer.close(better)
     total = time.process_time() - start + run.elsewhere
-    return Result(better, _report(mesh, better, of, run, {'total': total, 'setup': setup}, options))
+    elapsed = time.perf_counter() - clock
+    return Result(better, {**_report(mesh, better, of, run, {'total': total, 'setup': setup}, options), 'elapsed': elapsed})
 
 
 def _never() -> bool:

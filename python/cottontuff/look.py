@@ -12,7 +12,7 @@ from .faults import Fault
 from .improve import SIZES, example
 from .kernel import Filling, Refusal
 from .measures import Ints
-from .mesh import Mesh
+from .mesh import Mesh, checked
 from .neighbours import KINDS, neighbours
 
 
@@ -49,6 +49,7 @@ def look(mesh: Mesh, tet: int, *, steps: int | None = None, sizes: Sequence[int]
     >>> found.answer.worst, len(found.answer.tets), found.job.worst_entry
     (94014, 3, 39551)
     """
+    mesh = checked(mesh)
     if not 0 <= tet < len(mesh.tets):
         raise Fault(f'there is no tetrahedron {tet}: they are numbered from 0 to {len(mesh.tets) - 1}')
     of = neighbours(mesh)

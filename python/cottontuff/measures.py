@@ -91,6 +91,17 @@ def gamma(corners: Floats) -> Floats:
 MEASURES: dict[str, Measure] = {'shape': shape, 'gamma': gamma}
 
 
+def named(measure: MeasureName) -> Measure:
+    """The measure of this name, or the function itself.
+
+    >>> named('shape') is shape
+    True
+    """
+    if isinstance(measure, str) and measure not in MEASURES:
+        raise ValueError(f"measure: {' or '.join(MEASURES)}, or a function, not {measure!r}")
+    return MEASURES[measure] if isinstance(measure, str) else measure
+
+
 def ascending(points: Floats, tets: Ints) -> Floats:
     """The corners of tetrahedra in ascending order of their numbers, as a measure takes them.
 
@@ -108,8 +119,7 @@ def quality(points: Floats, tets: Ints, measure: MeasureName = 'shape') -> Float
     >>> quality(corner, np.array([[0, 1, 2, 3], [1, 0, 2, 3]])).round(6)
     array([0.592593, 0.592593])
     """
-    of = MEASURES[measure] if isinstance(measure, str) else measure
-    return of(ascending(points, tets))
+    return named(measure)(ascending(points, tets))
 
 
 def millionths(values: Floats) -> Ints:

@@ -4,11 +4,11 @@ from __future__ import annotations
 import numpy as np
 
 from .measures import Ints, millionths, quality
-from .model import Block, Mesh, Source, format_of
+from .model import Block, Mesh, Source, checked, format_of
 from .reading import read
 from .writing import write
 
-__all__ = ['Block', 'Mesh', 'Source', 'boundary', 'format_of', 'millionths', 'quality', 'read', 'write']
+__all__ = ['Block', 'Mesh', 'Source', 'boundary', 'checked', 'format_of', 'millionths', 'quality', 'read', 'write']
 
 
 def boundary(mesh: Mesh) -> Ints:

@@ -95,3 +95,31 @@ def partner_of(path: pathlib.Path) -> pathlib.Path:
     'part.ele'
     """
     return path.with_suffix('.ele' if path.suffix == '.node' else '.node')
+
+
+def checked(mesh: Mesh) -> Mesh:
+    """The mesh with its arrays as the package takes them; ValueError says in words what can't be.
+
+    >>> checked(Mesh([[0, 0, 0], [1, 0, 0], [0, 1, 0], [0, 0, 1]], [[0, 1, 2, 3]], [1])).points.dtype
+    dtype('float64')
+    """
+    points = np.ascontiguousarray(mesh.points, np.float64)
+    if points.ndim != 2 or points.shape[1] != 3 or not np.isfinite(points).all():
+        raise ValueError(f'points: rows of three finite numbers, not an array of shape {points.shape}' if points.ndim != 2 or points.shape[1] != 3 else 'points: a coordinate is no finite number')
+    cells = []
+    for name, values, width in (('tets', mesh.tets, 4), ('faces', mesh.faces, 3), ('lines', mesh.lines, 2)):
+        rows = np.asarray(values)
+        rows = np.zeros((0, width), np.int64) if rows.size == 0 else rows
+        if rows.dtype.kind not in 'iu' or rows.ndim != 2 or rows.shape[1] != width:
+            raise ValueError(f'{name}: rows of {width} whole numbers, not {rows.dtype} of shape {rows.shape}')
+        ascending = np.sort(rows.astype(np.int64), axis=1)
+        wrong = (ascending[:, 0] < 0) | (ascending[:, -1] >= len(points)) | (ascending[:, 1:] == ascending[:, :-1]).any(axis=1)
+        if wrong.any():
+            raise ValueError(f'{name}: row {int(np.argmax(wrong))} names an absent point, or one twice')
+        cells.append(np.ascontiguousarray(rows, np.int64))
+    regions = np.asarray(mesh.regions)
+    if not len(cells[0]):
+        raise ValueError('tets: the mesh has no tetrahedra')
+    if regions.shape != (len(cells[0]),) or regions.dtype.kind not in 'iu':
+        raise ValueError(f'regions: a whole number for each of {len(cells[0])} tetrahedra, not {regions.dtype} of shape {regions.shape}')
+    return dataclasses.replace(mesh, points=points, tets=cells[0], regions=regions.astype(np.int64), faces=cells[1], lines=cells[2])

@@ -92,8 +92,11 @@ def _kinds(sign: Flags, keys: Ints, order: Ints, against: NDArray[np.bool_]) -> 
 
 
 def _beside(kind: Flags, region: Ints, keys: Ints, order: Ints, tagged: Ints) -> Ints:
-    """For each tetrahedron and each of its faces the tetrahedron that a cavity may grow to, or -1. order sorts the keys."""
+    """For each tetrahedron and each of its faces the tetrahedron that a cavity may grow to, or -1. order sorts the keys. What is not touched keeps its faces: they can't be passed either."""
     count = len(kind)
+    still = (kind != SOUND) & (kind != EMPTY)
+    if still.any():
+        tagged = np.union1d(tagged, keys.reshape(4, count)[:, still].ravel())
     beside = np.full(4 * count, -1, np.int64)
     order = order[kind[order % count] == SOUND]
     first, second = order[:-1], order[1:]

@@ -91,8 +91,8 @@ def _load(path: pathlib.Path, format: str) -> tuple[Any, list[str], Overheard]:
             raise Fault(f'{path}: an element names a node that is absent') from refusal
         if format == 'msh' and b'$PartitionedEntities' in path.read_bytes():
             raise Fault(f'{path}: a partitioned mesh of version 4.1 is not taken; save it without partitions') from refusal
-        said_of = f': {refusal}' if str(refusal) else ''
-        raise Fault(f'{path}: it can\'t be read as {format}{said_of}') from refusal
+        said_of = f' ({refusal})' if str(refusal) else ''
+        raise Fault(f'{path}: it can\'t be read as {format}: it is damaged, cut off, or of another form{said_of}') from refusal
     except OSError as error:
         raise Fault(f'{path}: {error.strerror or sentence(error)}') from error
     for text in said:

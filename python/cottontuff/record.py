@@ -136,6 +136,7 @@ class Verified:
 
     replacements: int = 0
     carries_over: int = 0
+    measure: str = 'shape'
     wrong: list[str] = dataclasses.field(default_factory=list)
 
     def __bool__(self) -> bool:
@@ -303,13 +304,15 @@ def verify(
     >>> with tempfile.TemporaryDirectory() as folder:
     ...     better = improve(example(), below=0.9, record=folder + '/record')
     ...     verify(example(), better.mesh, folder + '/record', search=True)
-    Verified(replacements=1, carries_over=1, wrong=[])
+    Verified(replacements=1, carries_over=1, measure='shape', wrong=[])
     """
     name, said = os.fspath(path), Verified(wrong=_same_besides(before, after))
     steps = lines(name)
     nothing: dict[str, Any] = {}
     _, head = next(steps, (0, nothing))
-    replay = Replay(before, _options(name, head, measure), search)
+    options = _options(name, head, measure)
+    replay = Replay(before, options, search)
+    said.measure = options.measure if isinstance(options.measure, str) else 'a function'
     if head.get('input') != digest(before):
         said.wrong.append('the record starts from another mesh')
     if said.wrong:

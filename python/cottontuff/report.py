@@ -39,6 +39,8 @@ class Summary:
     smallest_angle: float
     largest_angle: float
     worst_exact: float
+    first_percentile_exact: float = 0.0
+    mean_exact: float = 0.0
 
 
 @dataclasses.dataclass(frozen=True)
@@ -85,7 +87,8 @@ def _summary(values: Floats, angles: Floats) -> Summary:
     whole = millionths(values)
     first, second, third = (int((whole < bound).sum()) for bound in (100_000, 200_000, 300_000))
     return Summary(tets=len(whole), worst=int(whole.min()), first_percentile=int(np.percentile(whole, 1)), mean=int(whole.sum()) // len(whole), under_100000=first, under_200000=second,
-                   under_300000=third, smallest_angle=float(angles.min()), largest_angle=float(angles.max()), worst_exact=float(values.min()))
+                   under_300000=third, smallest_angle=float(angles.min()), largest_angle=float(angles.max()), worst_exact=float(values.min()),
+                   first_percentile_exact=float(np.percentile(values, 1)), mean_exact=float(values.mean()))
 
 
 def summarize(points: Floats, tets: Ints, measure: MeasureName = 'shape') -> Summary:
@@ -199,9 +202,9 @@ def _fraction(whole: int, digits: int = 6) -> str:
     return f'{whole // 10 ** (6 - digits) / 10 ** digits:.{digits}f}'
 
 
-def _quality(whole: int, exact: float) -> str:
+def _quality(whole: int, exact: float, digits: int = 6) -> str:
     """A quality, in figures that tell bad ones apart."""
-    return _fraction(whole) if whole >= 2 else f'{exact:.3g}'
+    return _fraction(whole, digits) if whole >= 2 * 10 ** (6 - digits) or exact == 0 else f'{exact:.3g}'
 
 
 def _degrees(angle: float) -> str:
@@ -214,7 +217,9 @@ def region_names(mesh: Mesh) -> dict[int, str]:
     >>> region_names(Mesh(np.zeros((0, 3)), np.zeros((0, 4), int), np.zeros(0, int), names={'steel': np.array([3, 3]), 'inlet': np.array([9, 2])}))
     {3: 'steel'}
     """
-    names = {}
+    names: dict[int, str] = {}
+    if mesh.source is not None and mesh.source.region != 'gmsh:physical':
+        return names  # names are those of physical groups
     for name, value in mesh.names.items():
         pair = np.asarray(value).ravel()
         if len(pair) == 2 and pair.dtype.kind in 'iu' and pair[1] == 3:
@@ -227,7 +232,7 @@ def _shortened(text: str, width: int) -> str:
 
 
 def _summary_row(s: Summary) -> list[str]:
-    return [f'{s.tets:,}', _quality(s.worst, s.worst_exact), _fraction(s.first_percentile, 4), _fraction(s.mean, 4), f'{s.under_100000:,}', f'{s.under_200000:,}', f'{s.under_300000:,}',
+    return [f'{s.tets:,}', _quality(s.worst, s.worst_exact), _quality(s.first_percentile, s.first_percentile_exact, 4), _quality(s.mean, s.mean_exact, 4), f'{s.under_100000:,}', f'{s.under_200000:,}', f'{s.under_300000:,}',
             _degrees(s.smallest_angle), _degrees(s.largest_angle)]
 
 
@@ -324,7 +329,7 @@ def _column(summary: Mapping[str, Any]) -> list[str]:
     worst = text('worst', lambda n: _quality(int(n), float(summary.get('worst_exact', n / MILLION))))
     counts = [text(key, lambda n: f'{int(n):,}') for key in ('under_100000', 'under_200000', 'under_300000')]
     angles = [text(key, lambda a: _degrees(float(a))) for key in ('smallest_angle', 'largest_angle')]
-    return [worst, text('first_percentile', lambda n: _fraction(int(n))), text('mean', lambda n: _fraction(int(n))), *counts, *angles, text('tets', lambda n: f'{int(n):,}')]
+    return [worst, text('first_percentile', lambda n: _quality(int(n), float(summary.get('first_percentile_exact', n / MILLION)))), text('mean', lambda n: _quality(int(n), float(summary.get('mean_exact', n / MILLION)))), *counts, *angles, text('tets', lambda n: f'{int(n):,}')]
 
 
 def _item(label: str, text: str) -> str:
@@ -339,7 +344,11 @@ def _counts(counts: Mapping[Any, Any]) -> str:
 def _passes_text(passes: Sequence[Mapping[str, Any]]) -> str:
     if not passes:
         return 'none'
-    parts = [f"{p.get('number', k)}: {p.get('bad', 0):,} bad, {p.get('exchanges', 0):,} exchanged, worst {_fraction(int(p.get('worst', 0)))}" for k, p in enumerate(passes, 1)]
+    parts = []
+    for k, p in enumerate(passes, 1):
+        where = f"part {p['part']}, " if 'part' in p else ''
+        worst = _quality(int(p.get('worst', 0)), p.get('worst', 0) / MILLION)
+        parts.append(f"{where}{p.get('number', k)}: {p.get('bad', 0):,} bad, {p.get('exchanges', 0):,} exchanged, worst {worst}")
     return f'{len(passes):,} ({"; ".join(parts)})'
 
 

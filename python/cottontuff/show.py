@@ -225,7 +225,7 @@ def _panel(axes: Any, view: _View, tets: Ints, values: Floats, name: str, remark
 
 
 def _value(worst: float) -> str:
-    return f'{int(millionths(np.array([worst]))[0]) / 1e6:.6f}' if worst >= 0.001 else f'{worst:.3g}'
+    return f'{int(millionths(np.array([worst]))[0]) / 1e6:.6f}' if worst >= 2e-6 else f'{worst:.3g}'
 
 
 def panels(wide: float, high: float, count: int) -> tuple[tuple[float, float], list[Rectangle]]:

@@ -336,7 +336,7 @@ class RoundTrip(Test):
         names = [f"name '{name}'" for name in mesh.names]
         for suffix, format in (('vtk', 'vtk'), ('vtu', 'vtu'), ('mesh', 'mesh'), ('ele', 'tetgen')):
             lost = {'mesh': ["1 cell 'vertex'", 'cell data gmsh:geometrical'], 'ele': ["1 cell 'vertex'", f"{len(mesh.lines)} cells 'line'", f"{len(mesh.faces)} cells 'triangle'", 'cell data gmsh:geometrical']}.get(suffix, [])
-            self.assertEqual(sorted(write(self.out / f'a.{suffix}', mesh)), sorted(f'{what}: {format} has no place for it' for what in [*lost, *names]))
+            self.assertEqual(sorted(write(self.out / f'a.{suffix}', mesh)), sorted(f"{what}: {format} has no place for {'them' if ' cells ' in what else 'it'}" for what in [*lost, *names]))
         raw = meshio.read(self.out / 'a.vtk')
         self.assertEqual(sorted(raw.cell_data), ['gmsh:geometrical', 'gmsh:physical'])
         self.assertEqual(raw.point_data, {})

@@ -275,7 +275,7 @@ class Improve(unittest.TestCase):
                 report.improve_text({**whole, key: {}})
         for key in whole['before']:
             text = report.improve_text({**whole, 'before': {k: v for k, v in whole['before'].items() if k != key}})
-            self.assertEqual('  - ' in text, key != 'worst_exact')
+            self.assertEqual('  - ' in text, not key.endswith('_exact'))
 
 
 class Picture(unittest.TestCase):
