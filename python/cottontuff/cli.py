@@ -120,19 +120,21 @@ def _add_verify(commands: Any, common: argparse.ArgumentParser) -> None:
 
 
 class Interrupt:
-    """Ctrl-C as a flag that all processes see, so that a run ends between two cavities. A second one ends the program."""
+    """Ctrl-C as a flag that all processes see, so that a run ends between two cavities. A second one ends the program: each process counts its own, for a terminal sends one to all of them."""
 
     def __init__(self) -> None:
         self.flag = multiprocessing.get_context('fork').RawValue('b', 0)
+        self.own = 0
 
     def __enter__(self) -> Callable[[], bool]:
         self.before = signal.signal(signal.SIGINT, self._set)
         return lambda: bool(self.flag.value)
 
     def _set(self, number: int, frame: object) -> None:
-        if self.flag.value:
-            raise KeyboardInterrupt
+        self.own += 1
         self.flag.value = 1
+        if self.own > 1:
+            raise KeyboardInterrupt
 
     def __exit__(self, *_: object) -> None:
         signal.signal(signal.SIGINT, self.before)
