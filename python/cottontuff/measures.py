@@ -23,6 +23,11 @@ def six_volumes(corners: Floats) -> Floats:
     >>> six_volumes(np.array([[[0, 0, 0], [1, 0, 0], [0, 1, 0], [0, 0, 1]]], float))
     array([1.])
     """
+    with np.errstate(all='ignore'):
+        return _six_volumes(corners)
+
+
+def _six_volumes(corners: Floats) -> Floats:
     a = corners[:, 0]
     ux, uy, uz = (corners[:, 1] - a).T
     vx, vy, vz = (corners[:, 2] - a).T
@@ -41,9 +46,10 @@ def squared_edges(corners: Floats) -> list[Floats]:
     [1.0, 1.0, 1.0, 2.0, 2.0, 2.0]
     """
     lengths = []
-    for i, j in PAIRS:
-        x, y, z = (corners[:, j] - corners[:, i]).T
-        lengths.append(x * x + y * y + z * z)
+    with np.errstate(all='ignore'):
+        for i, j in PAIRS:
+            x, y, z = (corners[:, j] - corners[:, i]).T
+            lengths.append(x * x + y * y + z * z)
     return lengths
 
 
@@ -53,10 +59,10 @@ def shape(corners: Floats) -> Floats:
     >>> shape(np.array([[[0, 0, 0], [1, 0, 0], [0, 1, 0], [0, 0, 1]]], float)).round(6)
     array([0.592593])
     """
-    d = six_volumes(corners)
-    ab, ac, ad, bc, bd, cd = squared_edges(corners)
-    s = ab + ac + ad + bc + bd + cd
-    with np.errstate(divide='ignore', invalid='ignore', over='ignore'):
+    with np.errstate(all='ignore'):  # what is too large or too small for doubles has no number, and counts as the worst
+        d = _six_volumes(corners)
+        ab, ac, ad, bc, bd, cd = squared_edges(corners)
+        s = ab + ac + ad + bc + bd + cd
         value: Floats = 432 * (d * d) / ((s * s) * s)
     return value
 
@@ -78,12 +84,12 @@ def gamma(corners: Floats) -> Floats:
     array([1.])
     """
     a, b, c, d = (corners[:, i] for i in range(4))
-    volume = np.abs(six_volumes(corners)) / 6
-    areas = _area(a, b, c) + _area(a, b, d) + _area(a, c, d) + _area(b, c, d)
-    ab, ac, ad, bc, bd, cd = squared_edges(corners)
-    x, y, z = np.sqrt(ab * cd), np.sqrt(ac * bd), np.sqrt(ad * bc)
-    product = (x + y + z) * (x + y - z) * (x - y + z) * (-x + y + z)  # (24 R V)^2
-    with np.errstate(divide='ignore', invalid='ignore', over='ignore'):
+    with np.errstate(all='ignore'):
+        volume = np.abs(_six_volumes(corners)) / 6
+        areas = _area(a, b, c) + _area(a, b, d) + _area(a, c, d) + _area(b, c, d)
+        ab, ac, ad, bc, bd, cd = squared_edges(corners)
+        x, y, z = np.sqrt(ab * cd), np.sqrt(ac * bd), np.sqrt(ad * bc)
+        product = (x + y + z) * (x + y - z) * (x - y + z) * (-x + y + z)  # (24 R V)^2
         value: Floats = np.where(product > 0, 3 * (3 * volume / areas) * 24 * volume / np.sqrt(np.maximum(product, 0)), 0)
     return value
 
@@ -128,6 +134,7 @@ def millionths(values: Floats) -> Ints:
     >>> millionths(np.array([0.0, 1e-9, 0.5925929, 1.0000001]))
     array([      1,       1,  592592, 1000000])
     """
-    scaled = np.nan_to_num(values * 1e6, nan=0.0, posinf=0.0, neginf=0.0)
+    with np.errstate(all='ignore'):
+        scaled = np.nan_to_num(values * 1e6, nan=0.0, posinf=0.0, neginf=0.0)
     whole: Ints = np.clip(np.floor(scaled), 1, MILLION).astype(np.int64)
     return whole

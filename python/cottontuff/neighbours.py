@@ -84,9 +84,8 @@ def _kinds(sign: Flags, keys: Ints, order: Ints, against: NDArray[np.bool_]) -> 
     direction = np.concatenate([sign * way for way in DIRECTION])[order]
     new = np.append(True, keys[order[1:]] != keys[order[:-1]]) if len(order) else np.zeros(0, bool)
     group = np.cumsum(new) - 1
-    often = np.maximum(np.bincount(group, direction > 0), np.bincount(group, direction < 0))
-    doubled = np.unique(order[often[group] > 1] % count)
-    doubled = doubled[sign[doubled] != 0]
+    same_side = np.where(direction > 0, np.bincount(group, direction > 0)[group], np.bincount(group, direction < 0)[group])
+    doubled = np.unique(order[(direction != 0) & (same_side > 1)] % count)
     kind[doubled] = np.where(against[doubled], TURNED, OVERLAPPING)
     return kind
 
