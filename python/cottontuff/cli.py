@@ -212,12 +212,21 @@ def _improved(given: argparse.Namespace, mesh: Mesh) -> Result:
 def files_of(path: str) -> set[str]:
     """The files that a mesh is in: tetgen's has two.
 
-    >>> sorted(os.path.basename(file) for file in files_of('part.ele'))
-    ['part.ele', 'part.node']
+    >>> len(files_of('part.ele')), len(files_of('part.msh'))
+    (2, 1)
     """
     stem, suffix = os.path.splitext(path)
     both = [stem + '.node', stem + '.ele'] if suffix in ('.node', '.ele') else [path]
-    return {os.path.realpath(file) for file in both}
+    return {_identity(file) for file in both}
+
+
+def _identity(path: str) -> str:
+    """The same for two names of one file, links of either kind included."""
+    try:
+        found = os.stat(path)
+    except OSError:
+        return os.path.realpath(path)
+    return f'{found.st_dev}:{found.st_ino}'
 
 
 def _apart(mesh: str, *others: str | None) -> None:
@@ -225,9 +234,9 @@ def _apart(mesh: str, *others: str | None) -> None:
     taken = files_of(mesh)
     for path in others:
         if path and path != '-':
-            if os.path.realpath(path) in taken:
+            if _identity(path) in taken:
                 raise Fault(f'{path}: it is named twice, or is a mesh that is read or written')
-            taken.add(os.path.realpath(path))
+            taken.add(_identity(path))
 
 
 def do_measure(given: argparse.Namespace) -> int:
@@ -300,25 +309,34 @@ def main(arguments: Sequence[str] | None = None) -> int:
     >>> main(['measure', 'nowhere.msh'])
     1
     """
-    top = parser()
     try:
-        given = top.parse_args(arguments)
+        given = parser().parse_args(arguments)
+        status = int(given.do(given))
+        sys.stdout.flush()
+        return status
     except SystemExit as end:
         return int(end.code or 0)
-    try:
-        return int(given.do(given))
-    except ValueError as fault:
-        print(f'cottontuff: {fault}', file=sys.stderr)
-        return USAGE
-    except Fault as fault:
-        print(f'cottontuff: {fault}', file=sys.stderr)
-        return REFUSED
-    except MemoryError:
-        print('cottontuff: the memory does not suffice for this mesh', file=sys.stderr)
-        return REFUSED
-    except BrokenPipeError:
-        os.dup2(os.open(os.devnull, os.O_WRONLY), sys.stdout.fileno())  # the reader of a pipe went away; every file is written by then
-        return DONE
     except KeyboardInterrupt:
-        print('cottontuff: interrupted', file=sys.stderr)
-        return INTERRUPTED
+        return _said('interrupted', INTERRUPTED)
+    except ValueError as fault:
+        return _said(str(fault), USAGE)
+    except Fault as fault:
+        return _said(str(fault), REFUSED)
+    except MemoryError:
+        return _said('the memory does not suffice for this mesh', REFUSED)
+    except BrokenPipeError:
+        _leave_output()  # the reader of a pipe went away; every file is written by then
+        return DONE
+    except OSError as fault:
+        _leave_output()
+        return _said(f'{fault.filename}: {fault.strerror}' if fault.filename else str(fault.strerror or fault), REFUSED)
+
+
+def _said(sentence: str, status: int) -> int:
+    print(f'cottontuff: {sentence}', file=sys.stderr)
+    return status
+
+
+def _leave_output() -> None:
+    """Nothing more can be written to standard output, also not when the program ends."""
+    os.dup2(os.open(os.devnull, os.O_WRONLY), sys.stdout.fileno())

@@ -26,6 +26,7 @@ _TRIANGLES, _TETS = 560, 512
 _MEASURES = {'shape': 0, 'gamma': 1}
 _GIVEN = 2
 _UNDECIDED = 2
+SMALLEST_CAVITY, LARGEST_CAVITY = 2.0**-120, 2.0**120  # beyond that the measures leave the doubles
 
 
 class Engine(Protocol):
@@ -322,7 +323,7 @@ class PlainEngine:
         """Makes the job; None, or why it can't be made."""
         xyz = self.mesh.points[list(self.held.points)]
         half = float((xyz.max(0) - xyz.min(0)).max()) / 2
-        if not exact.SMALLEST < half < exact.LARGEST:
+        if not SMALLEST_CAVITY < half < LARGEST_CAVITY:
             return 'too small or too large for doubles'
         self.made = cavity.job(self.held)
         return None

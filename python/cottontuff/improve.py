@@ -160,8 +160,9 @@ class Run:
         tried[0] += 1
         tried[2] += taken
         if found.number == 0 and found.worst > worst:
-            tried[1] += 1
-            return self._exchange(found.count, worst, found.worst, lawful, agrees)
+            came = self._exchange(found.count, worst, found.worst, lawful, agrees)
+            tried[1] += came is not None
+            return came
         if found.number not in (0, NO_FILLING):
             counts.refused[found.number] = counts.refused.get(found.number, 0) + 1
             self.ended = True  # a larger cavity has the same points, and is rounded more coarsely

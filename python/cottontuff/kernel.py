@@ -268,7 +268,8 @@ def check(points: ArrayLike, triangles: ArrayLike, table: ArrayLike, *, kept: Ar
     >>> print(check(case_b()[0], case_b()[1], [-1, 1, 1, 1, 1]))
     13: a solid four is unmeasured: its entry is -1, which does not bar it
     """
-    number = library().cottontuff_check_inner(*_arguments(_lists(points, triangles, kept, inner, table)))
+    lists = _lists(points, triangles, kept, inner, table)  # held by name: the call has their addresses only
+    number = library().cottontuff_check_inner(*_arguments(lists))
     return Refusal.of(number) if number else None
 
 

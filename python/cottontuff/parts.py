@@ -8,12 +8,14 @@ from __future__ import annotations
 import dataclasses
 import multiprocessing
 import time
+from multiprocessing.connection import Connection, wait
 from typing import Any, Callable, Sequence
 
 import numpy as np
 from numpy.typing import NDArray
 
 from .cavity import Options
+from .faults import Fault
 from .improve import Counts, Exchange, Progress, Run
 from .measures import Floats, Ints
 from .mesh import Mesh
@@ -95,21 +97,55 @@ def _work(number: int) -> Done:
     return Done(engine.fours(), engine.signs(), engine.regions(), sorted(run.fresh), settled, exchanges, run.counts, run.passes, run.interrupted, time.process_time() - start)
 
 
+def _send(number: int, there: Connection) -> None:
+    """Betters a part and sends what came of it, or what went wrong."""
+    try:
+        there.send(_work(number))
+    except BaseException as fault:
+        there.send(fault)
+
+
+def _gathered(waiting: dict[Connection, int], shared: _Shared, progress: Progress | None) -> list[Done]:
+    """What the processes send, in the order of the parts; what they show of themselves meanwhile is shown together."""
+    done: dict[int, Done] = {}
+    while waiting:
+        for ready in wait(list(waiting), 0.2):
+            assert isinstance(ready, Connection)
+            try:
+                answer = ready.recv()
+            except EOFError:
+                raise Fault('a process ended before its part was done: it was killed, or the memory did not suffice') from None
+            if isinstance(answer, BaseException):
+                raise answer
+            done[waiting.pop(ready)] = answer
+        shown = np.array(shared.shown[:]).reshape(-1, 3)
+        if progress is not None and shown[:, 0].any():
+            progress(int(shown[:, 0].max()), int(shown[:, 1].sum()), float(shown[shown[:, 0] > 0, 2].min()))
+    return [done[number] for number in sorted(done)]
+
+
 def _all_parts(shared: _Shared, progress: Progress | None) -> list[Done]:
-    """Runs the processes; what they show of themselves is shown together."""
+    """Runs a process for each part. However it ends, none of them is left behind."""
     global _shared
     _shared = shared
-    count = len(shared.parts)
-    with multiprocessing.get_context('fork').Pool(count) as pool:
-        answer = pool.map_async(_work, range(count), chunksize=1)
-        while progress is not None and not answer.ready():
-            answer.wait(0.2)
-            shown = np.array(shared.shown[:]).reshape(-1, 3)
-            if shown[:, 0].any():
-                progress(int(shown[:, 0].max()), int(shown[:, 1].sum()), float(shown[shown[:, 0] > 0, 2].min()))
-        done = answer.get()
-    _shared = None
-    return done
+    context = multiprocessing.get_context('fork')
+    started, waiting = [], {}
+    try:
+        for number in range(len(shared.parts)):
+            here, there = context.Pipe(duplex=False)
+            waiting[here] = number
+            process = context.Process(target=_send, args=(number, there), daemon=True)
+            process.start()
+            there.close()  # so that the process's own end is the last: when it dies, this side hears of it
+            started.append(process)
+        return _gathered(dict(waiting), shared, progress)
+    finally:
+        _shared = None
+        for process in started:
+            process.terminate()
+            process.join()
+        for here in waiting:
+            here.close()
 
 
 def _together(of: Neighbours, parts: list[Ints], done: list[Done]) -> tuple[Neighbours, list[Ints]]:

@@ -11,6 +11,7 @@ import gzip
 import hashlib
 import json
 import os
+import zlib
 from types import TracebackType
 from typing import IO, Any, Callable, Iterator, Sequence
 
@@ -126,7 +127,7 @@ def lines(path: str | os.PathLike[str]) -> Iterator[tuple[int, dict[str, Any]]]:
                 yield number, what
     except OSError as fault:
         raise Fault(f'{name}: the record can\'t be read: {fault.strerror or fault}') from fault
-    except (ValueError, EOFError) as fault:
+    except (ValueError, EOFError, zlib.error, RecursionError) as fault:
         raise Fault(f'{name}: no record, or not whole: {fault}') from fault
 
 
@@ -141,6 +142,15 @@ class Verified:
 
     def __bool__(self) -> bool:
         return not self.wrong
+
+
+def is_number(found: object, wanted: int) -> bool:
+    """Whether a line has this whole number, and not true or 1.0 for it.
+
+    >>> is_number(1, 1), is_number(True, 1), is_number(1.0, 1)
+    (True, False, False)
+    """
+    return type(found) is int and found == wanted
 
 
 def _numbers(what: dict[str, Any], name: str, most: int) -> list[int]:
@@ -201,7 +211,7 @@ class Replay:
         self._judge(what, count, allowed, old)
         own = engine.judge_own()
         a = own.number == 0 and own.law == 0
-        if (what.get('a'), what.get('b')) != (int(a), int(agrees)):
+        if not (is_number(what.get('a'), int(a)) and is_number(what.get('b'), int(agrees))):
             raise ValueError(f'a and b are {int(a)} and {int(agrees)}, not as recorded')
         if self.search:
             self._search(what, fill)
@@ -214,7 +224,7 @@ class Replay:
         verdict = self.engine.judge_answer(count)
         if verdict.number or verdict.law:
             raise ValueError(f'the judge refuses the job with {verdict.number}' if verdict.number else f'the judge says that the filling breaks law {verdict.law}')
-        if verdict.worst != what.get('worst') or old != what.get('old'):
+        if not (is_number(what.get('worst'), verdict.worst) and is_number(what.get('old'), old)):
             raise ValueError(f"the worst entries are {old:,} and {verdict.worst:,}, not {what.get('old')} and {what.get('worst')}")
         if verdict.worst <= old:
             raise ValueError(f'the worst entry does not rise: {old:,} and {verdict.worst:,}')
@@ -245,12 +255,12 @@ class Replay:
 
 def _options(path: str, head: dict[str, Any], measure: MeasureName | None) -> Options:
     """The options that a record was made with."""
-    if head.get('cottontuff record') != FORM:
+    if not is_number(head.get('cottontuff record'), FORM):
         raise Fault(f'{path}: line 1 is not the first line of a record of form {FORM}')
     named = head.get('measure')
     if measure is None and named is None:
         raise Fault(f'{path}: it was made with a measure of one\'s own: hand the function to record.verify')
-    if named is not None and named not in MEASURES:
+    if named is not None and (not isinstance(named, str) or named not in MEASURES):
         raise Fault(f'{path}: line 1: there is no measure {named!r}')
     limit, table = head.get('limit'), head.get('table')
     if type(limit) is not int or not 1 <= limit <= FURTHEST or table not in ('millionths', 'rank'):
@@ -275,13 +285,13 @@ def _replayed(replay: Replay, steps: Iterator[tuple[int, dict[str, Any]]], said:
     ended = False
     for number, what in steps:
         if ended or 'end' in what:
-            if ended or what['end'] != said.replacements or what.get('output') != output:
+            if ended or not is_number(what['end'], said.replacements) or what.get('output') != output:
                 said.wrong.append(f'line {number}: the record does not end as its last line says')
                 return True
             ended = True
             continue
         try:
-            if what.get('n') != said.replacements + 1:
+            if not is_number(what.get('n'), said.replacements + 1):
                 raise ValueError(f"it has the number {what.get('n')}, and {said.replacements + 1} is due")
             said.carries_over += replay.step(what)
         except ValueError as fault:
