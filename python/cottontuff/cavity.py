@@ -171,9 +171,9 @@ def scale(points: Floats, limit: int = FURTHEST) -> NDArray[np.int32]:
     [[-100, -50, -10], [100, -50, -10], [-100, 50, -10], [-100, -50, 10]]
     """
     low, high = points.min(0), points.max(0)
-    half = (high - low).max() / 2
-    with np.errstate(over='ignore', invalid='ignore', divide='ignore'):
-        rounded = np.rint((points - (low + high) / 2) * (limit / half))
+    with np.errstate(all='ignore'):
+        # Without the middle of the box, which far from the origin is no double.
+        rounded = np.rint(((points - low) - (high - points)) * (limit / (high - low).max()))
     whole: NDArray[np.int32] = np.clip(np.nan_to_num(rounded), -limit, limit).astype(np.int32)
     return whole
 

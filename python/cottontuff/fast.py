@@ -26,7 +26,7 @@ _TRIANGLES, _TETS = 560, 512
 _MEASURES = {'shape': 0, 'gamma': 1}
 _GIVEN = 2
 _UNDECIDED = 2
-SMALLEST_CAVITY, LARGEST_CAVITY = 2.0**-120, 2.0**120  # beyond that the measures leave the doubles
+SMALLEST_CAVITY, LARGEST_CAVITY = 2.0**-119, 2.0**121  # beyond that the measures leave the doubles
 
 
 class Engine(Protocol):
@@ -35,7 +35,7 @@ class Engine(Protocol):
     answer: NDArray[np.uint8]
 
     def open(self, slot: int) -> None: ...
-    def close_on(self, slots: list[int], points: list[int]) -> None: ...
+    def reopen(self, slots: list[int], points: list[int]) -> None: ...
     def grow(self, points: int) -> int: ...
     def prepare(self) -> str | None: ...
     def facts(self) -> tuple[bool, bool, int, float, int]: ...
@@ -175,7 +175,7 @@ class FastEngine:
     def open(self, slot: int) -> None:
         self.helper.helper_open(self.at, self.cavity_at, slot)
 
-    def close_on(self, slots: list[int], points: list[int]) -> None:
+    def reopen(self, slots: list[int], points: list[int]) -> None:
         """Opens the cavity of these slots and points."""
         tets, corners = np.array(slots, np.int32), np.array(points, np.int32)
         if self.helper.helper_reopen(self.at, self.cavity_at, _address(tets), len(tets), _address(corners), len(corners)):
@@ -305,12 +305,14 @@ class PlainEngine:
     def open(self, slot: int) -> None:
         self.held = self.mesh.open(slot)
 
-    def close_on(self, slots: list[int], points: list[int]) -> None:
+    def reopen(self, slots: list[int], points: list[int]) -> None:
         """Opens the cavity of these slots and points."""
+        if len(slots) > cavity.MOST_TETS or len(points) > MOST_POINTS:
+            raise ValueError('no cavity: over 512 tetrahedra or 16 points')
         self.held = cavity.Cavity(self.mesh, tuple(sorted(slots)), tuple(sorted(points)))
 
     def grow(self, points: int) -> int:
-        while len(self.held.points) < points:
+        while len(self.held.points) < min(points, MOST_POINTS):
             larger = cavity.grow(self.held)
             if larger is None:
                 break
@@ -322,8 +324,7 @@ class PlainEngine:
     def prepare(self) -> str | None:
         """Makes the job; None, or why it can't be made."""
         xyz = self.mesh.points[list(self.held.points)]
-        half = float((xyz.max(0) - xyz.min(0)).max()) / 2
-        if not SMALLEST_CAVITY < half < LARGEST_CAVITY:
+        if not SMALLEST_CAVITY < float((xyz.max(0) - xyz.min(0)).max()) < LARGEST_CAVITY:
             return 'too small or too large for doubles'
         self.made = cavity.job(self.held)
         return None

@@ -200,7 +200,7 @@ class Replay:
         fours, slots, points = self._cavity(what)
         fill = _numbers(what, 'fill', len(points))
         engine, count = self.engine, len(fill) // 4
-        engine.close_on(slots, points)
+        engine.reopen(slots, points)
         why = engine.prepare()
         if why is not None:
             raise ValueError(f'the cavity is {why}')

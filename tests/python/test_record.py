@@ -130,7 +130,7 @@ def other_filling(before: Mesh, lines: Lines) -> tuple[int, list[int]]:
     for row, line in enumerate(lines[1:-1], 1):
         engine = replay.engine
         slots = [replay.slots[tuple(line['points'][i] for i in line['out'][k: k + 4])] for k in range(0, len(line['out']), 4)]
-        engine.close_on(slots, line['points'])
+        engine.reopen(slots, line['points'])
         engine.prepare()
         job = engine.job()
         for k in range(0, len(line['fill']), 4):
