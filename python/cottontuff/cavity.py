@@ -15,7 +15,8 @@ from numpy.typing import NDArray
 from . import exact
 from .kernel import FURTHEST, MOST_POINTS
 from .measures import Floats, Ints, MeasureName, millionths, named, six_volumes
-from .neighbours import DIRECTION, OPPOSITE, Neighbours
+from .mesh import OPPOSITE
+from .neighbours import DIRECTION, Neighbours
 
 Four = tuple[int, int, int, int]
 Triangle = tuple[int, int, int]

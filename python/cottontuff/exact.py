@@ -13,6 +13,7 @@ from fractions import Fraction
 import numpy as np
 from numpy.typing import NDArray
 
+from .helper import address, helper, is_pure
 from .measures import Floats, Ints
 
 BOUND = 16 * 2.0**-53
@@ -44,6 +45,21 @@ def six_volume(points: Whole, four: tuple[int, int, int, int]) -> int:
     dx, dy, dz = points[four[3]]
     ux, uy, uz, vx, vy, vz, wx, wy, wz = bx - ax, by - ay, bz - az, cx - ax, cy - ay, cz - az, dx - ax, dy - ay, dz - az
     return ux * (vy * wz - vz * wy) + uy * (vz * wx - vx * wz) + uz * (vx * wy - vy * wx)
+
+
+def quickly_filtered(points: Floats, fours: Ints) -> tuple[NDArray[np.int8], NDArray[np.bool_]]:
+    """The same as `filtered`, by the helper where there is one.
+
+    >>> quickly_filtered(np.array([[0., 0, 0], [1, 0, 0], [0, 1, 0], [0, 0, 1]]), np.array([[0, 1, 2, 3]]))
+    (array([1], dtype=int8), array([ True]))
+    """
+    loaded = None if is_pure() else helper()
+    if loaded is None:
+        return filtered(points, fours)
+    places, rows = np.ascontiguousarray(points, np.float64), np.ascontiguousarray(fours, np.int64)
+    sign, certain = np.zeros(len(rows), np.int8), np.zeros(len(rows), np.bool_)
+    loaded.helper_filter(address(places), address(rows), len(rows), address(sign), address(certain))
+    return sign, certain
 
 
 def filtered(points: Floats, fours: Ints) -> tuple[NDArray[np.int8], NDArray[np.bool_]]:
@@ -83,7 +99,7 @@ def counted_signs(points: Floats, fours: Ints) -> tuple[NDArray[np.int8], int]:
     >>> counted_signs(np.array([[0, 0, 0], [.1, .1, .3], [.2, .2, .6], [1, .3, .1]]), np.array([[0, 1, 2, 3]]))
     (array([0], dtype=int8), 1)
     """
-    sign, certain = filtered(points, fours)
+    sign, certain = quickly_filtered(points, fours)
     doubtful = np.flatnonzero(~certain)
     if len(doubtful):
         used, local = np.unique(fours[doubtful], return_inverse=True)

@@ -6,8 +6,6 @@ from __future__ import annotations
 
 import ctypes
 import functools
-import os
-import pathlib
 from fractions import Fraction
 from typing import Any, Protocol, Union
 
@@ -17,11 +15,11 @@ from numpy.typing import NDArray
 from . import cavity, exact, kernel
 from .cavity import Job, Options
 from .faults import Fault
+from .helper import address as _address, helper, is_pure
 from .kernel import ANSWER_BYTES, MOST_FOURS, MOST_POINTS, RawFound, RawVerdict
 from .measures import Floats, Ints
 from .neighbours import Neighbours
 
-VERSION = 1
 _TRIANGLES, _TETS = 560, 512
 _MEASURES = {'shape': 0, 'gamma': 1}
 _GIVEN = 2
@@ -54,6 +52,9 @@ class Engine(Protocol):
     def own_fours(self) -> list[int]: ...
     def signs(self) -> NDArray[np.int8]: ...
     def regions(self) -> Ints: ...
+    def find(self, fours: NDArray[np.int32]) -> list[int]: ...
+    def regions_of(self, slots: list[int]) -> list[int]: ...
+    def beside(self) -> Ints: ...
 
 
 _P = ctypes.c_void_p
@@ -79,44 +80,10 @@ class _Cavity(ctypes.Structure):
 
 
 @functools.lru_cache(maxsize=1)
-def helper() -> ctypes.CDLL | None:
-    """The helper, where it was built: the file that COTTONTUFF_HELPER names, else the one beside the package; None where there is none.
-
-    >>> helper() is None or helper().helper_version() == VERSION
-    True
-    """
-    named = os.environ.get('COTTONTUFF_HELPER')
-    path = named or str(pathlib.Path(__file__).resolve().parent / 'libcottontuff_helper.so')
-    if not named and not os.path.exists(path):
-        return None
-    try:
-        loaded = ctypes.CDLL(path)
-        loaded.helper_sizes.restype = ctypes.c_int64
-    except (OSError, AttributeError) as fault:
-        raise Fault(f'the helper can\'t be loaded: {fault}') from fault
-    if loaded.helper_version() != VERSION or loaded.helper_sizes(0) != ctypes.sizeof(_Mesh) or loaded.helper_sizes(1) != ctypes.sizeof(_Cavity):
-        raise Fault(f'{path}: this helper is of another version than the package; python/install builds both')
-    for name, answer, arguments in (
-        ('link', None, [_P]), ('open', None, [_P, _P, ctypes.c_int32]), ('grow', ctypes.c_int32, [_P, _P, ctypes.c_int32]), ('prepare', ctypes.c_int32, [_P, _P]),
-        ('table', None, [_P, _P]), ('recheck', ctypes.c_int32, [_P, _P, ctypes.c_int32]), ('exchange', ctypes.c_int32, [_P, _P, _P, ctypes.c_int32]),
-        ('volume', ctypes.c_int32, [_P, ctypes.c_int64, _P, ctypes.c_int64, _P, _P]), ('reopen', ctypes.c_int32, [_P, _P, _P, ctypes.c_int32, _P, ctypes.c_int32]),
-    ):
-        function = getattr(loaded, 'helper_' + name)
-        function.restype, function.argtypes = answer, arguments
-    return loaded
-
-
-def is_pure() -> bool:
-    """Whether the plain form is asked for.
-
-    >>> is_pure() == (os.environ.get('COTTONTUFF_PURE', '') not in ('', '0'))
-    True
-    """
-    return os.environ.get('COTTONTUFF_PURE', '') not in ('', '0')
-
-
-def _address(array: NDArray[Any]) -> int:
-    return int(array.__array_interface__['data'][0])
+def _fits() -> bool:
+    """Whether the helper's structs are laid out as those here."""
+    loaded = helper()
+    return loaded is not None and loaded.helper_sizes(0) == ctypes.sizeof(_Mesh) and loaded.helper_sizes(1) == ctypes.sizeof(_Cavity)
 
 
 class FastEngine:
@@ -291,6 +258,20 @@ class FastEngine:
     def regions(self) -> Ints:
         return self.arrays['region'][: self.mesh.slots].astype(np.int64)
 
+    def find(self, fours: NDArray[np.int32]) -> list[int]:
+        """The slots of tetrahedra that may be touched, by their ascending corners; -1 for one that is not there."""
+        slots = np.empty(len(fours), np.int32)
+        self.helper.helper_find(self.at, _address(fours), len(fours), _address(slots))
+        found: list[int] = slots.tolist()
+        return found
+
+    def regions_of(self, slots: list[int]) -> list[int]:
+        regions: list[int] = self.arrays['region'][slots].tolist()
+        return regions
+
+    def beside(self) -> Ints:
+        return self.arrays['beside'][: self.mesh.slots].astype(np.int64)
+
 
 class PlainEngine:
     """The engine over `cavity`."""
@@ -392,6 +373,17 @@ class PlainEngine:
     def regions(self) -> Ints:
         return np.array(self.mesh.region, np.int64)
 
+    def find(self, fours: NDArray[np.int32]) -> list[int]:
+        """The slots of tetrahedra that may be touched, by their ascending corners; -1 for one that is not there."""
+        at = self.mesh.at
+        return [next((slot for slot in at[a] if self.mesh.corners[slot] == (a, b, c, d)), -1) for a, b, c, d in fours.tolist()]
+
+    def regions_of(self, slots: list[int]) -> list[int]:
+        return [self.mesh.region[slot] for slot in slots]
+
+    def beside(self) -> Ints:
+        return np.array(self.mesh.beside, np.int64).reshape(-1, 4)
+
 
 def engine(of: Neighbours, options: Options = Options()) -> Union[FastEngine, PlainEngine]:
     """The engine for a mesh.
@@ -402,6 +394,8 @@ def engine(of: Neighbours, options: Options = Options()) -> Union[FastEngine, Pl
     (5, [0, 1, 2, 3, 4])
     """
     loaded = None if is_pure() else helper()
+    if loaded is not None and not _fits():
+        raise Fault('the helper is of another version than the package; python/install builds both')
     return PlainEngine(of, options) if loaded is None else FastEngine(of, options, loaded)
 
 

@@ -12,10 +12,9 @@ from numpy.typing import NDArray
 
 from . import exact
 from .measures import Floats, Ints
-from .mesh import Mesh
+from .mesh import OPPOSITE, Mesh
 
-# Corner i of an ascending four is opposite face i; with D positive that face looks outward in ascending order for even i, reversed for odd.
-OPPOSITE = ((1, 2, 3), (0, 2, 3), (0, 1, 3), (0, 1, 2))
+# With D positive face i of an ascending four, opposite corner i, looks outward in ascending order for even i, reversed for odd.
 DIRECTION = (1, -1, 1, -1)
 SOUND, FLAT, TURNED, OVERLAPPING, EMPTY = 0, 1, 2, 3, 4
 KINDS = {FLAT: 'flat', TURNED: 'turned', OVERLAPPING: 'overlapping'}
@@ -135,13 +134,18 @@ def _keys(corners: Ints, shut: Ints, points: int) -> tuple[Ints, Ints, Ints]:
     return own, np.argsort(own, kind='stable'), np.unique(keys[4 * len(corners):])
 
 
-def rejoined(of: Neighbours, corners: Ints, sign: Flags, region: Ints, kind: Flags) -> Neighbours:
-    """The neighbours of other tetrahedra on the same points; those of the kind EMPTY are none.
+def rejoined(of: Neighbours, corners: Ints, sign: Flags, region: Ints, kind: Flags, beside: Ints) -> Neighbours:
+    """The neighbours of other tetrahedra on the same points, joined over the faces that have nothing beside them; those of the kind EMPTY are none.
 
     >>> two = Mesh(np.array([[0., 0, 0], [1, 0, 0], [0, 1, 0], [0, 0, 1], [0, 0, -1]]), np.array([[0, 1, 2, 3], [0, 2, 1, 4]]), np.array([7, 7]))
-    >>> of = neighbours(two)
-    >>> rejoined(of, of.corners, of.sign, of.region, np.array([SOUND, EMPTY], np.int8)).beside.tolist()
-    [[-1, -1, -1, -1], [-1, -1, -1, -1]]
+    >>> of, alone = neighbours(two), np.full((2, 4), -1)
+    >>> rejoined(of, of.corners, of.sign, of.region, of.kind, alone).beside.tolist()
+    [[-1, -1, -1, 1], [-1, -1, -1, 0]]
     """
-    own, order, tagged = _keys(corners, of.shut, len(of.points))
-    return dataclasses.replace(of, corners=corners, sign=sign, region=region, beside=_beside(kind, region, own, order, tagged), kind=kind)
+    # All four faces of the tetrahedra that have one open: `_beside` wants whole ones.
+    open_ones = np.flatnonzero((beside < 0).any(axis=1) & (kind != EMPTY))
+    own, order, tagged = _keys(corners[open_ones], of.shut, len(of.points))
+    found = _beside(kind[open_ones], region[open_ones], own, order, tagged)
+    beside = beside.copy()
+    beside[open_ones] = np.where((beside[open_ones] < 0) & (found >= 0), open_ones[found], beside[open_ones])
+    return dataclasses.replace(of, corners=corners, sign=sign, region=region, beside=beside, kind=kind)

@@ -54,6 +54,7 @@ class Done:
     """What a process gives back of its part."""
 
     fours: Ints
+    beside: Ints
     sign: NDArray[np.int8]
     region: Ints
     fresh: list[int]
@@ -94,7 +95,7 @@ def _work(number: int) -> Done:
     run.run(shared.passes, show)
     engine = run.engine
     settled = {slot: points for slot, (_, points) in run.failed.items() if run.is_settled(slot)}
-    return Done(engine.fours(), engine.signs(), engine.regions(), sorted(run.fresh), settled, exchanges, run.counts, run.passes, run.interrupted, time.process_time() - start)
+    return Done(engine.fours(), engine.beside(), engine.signs(), engine.regions(), sorted(run.fresh), settled, exchanges, run.counts, run.passes, run.interrupted, time.process_time() - start)
 
 
 def _send(number: int, there: Connection) -> None:
@@ -158,12 +159,14 @@ def _together(of: Neighbours, parts: list[Ints], done: list[Done]) -> tuple[Neig
     more = end - len(of.corners)
     corners, region = np.pad(of.corners, ((0, more), (0, 0))), np.pad(of.region, (0, more))
     sign, kind = np.pad(of.sign, (0, more)), np.pad(of.kind, (0, more))
+    beside = np.full((end, 4), -1, np.int64)
     for places, part in zip(where, done):
         now = part.sign != 0  # what is not touched has the sign 0 there, and stays as it is here
         corners[places[now]], sign[places[now]], region[places] = part.fours[now], part.sign[now], part.region
+        beside[places[now]] = np.append(places, -1)[part.beside[now]]
         gone = places[part.fours[:, 0] < 0]
         kind[gone], corners[gone] = EMPTY, -1
-    return rejoined(of, corners, sign, region, kind), where
+    return rejoined(of, corners, sign, region, kind, beside), where
 
 
 def run(

@@ -26,18 +26,24 @@ from .mesh import Mesh
 from .neighbours import neighbours
 
 FORM = 1
-Corners = tuple[int, ...]
 
 
 def in_order(rows: Ints) -> Ints:
-    """Rows of whole numbers, sorted.
+    """Rows of whole numbers in an order that does not depend on the one they come in: by a mix of their numbers, which is one number to sort by instead of five.
 
-    >>> in_order(np.array([[1, 2], [0, 9]])).tolist()
-    [[0, 9], [1, 2]]
+    >>> in_order(np.array([[1, 2], [0, 9]])).tolist() == in_order(np.array([[0, 9], [1, 2]])).tolist()
+    True
     """
     rows = np.ascontiguousarray(rows, np.int64)
-    sorted_rows: Ints = rows[np.lexsort(rows.T[::-1])]
-    return sorted_rows
+    mixed = np.zeros(len(rows), np.uint64)
+    for column in rows.view(np.uint64).T:
+        mixed = (mixed ^ column) * np.uint64(0x9E3779B97F4A7C15)
+        mixed ^= mixed >> np.uint64(29)
+    order = np.argsort(mixed, kind='stable')
+    if (mixed[order[1:]] == mixed[order[:-1]]).any():  # two rows with one mix, or one row twice
+        order = np.lexsort((*rows.T[::-1], mixed))
+    ordered: Ints = rows[order]
+    return ordered
 
 
 def digest(mesh: Mesh) -> str:
@@ -160,12 +166,6 @@ def _numbers(what: dict[str, Any], name: str, most: int) -> list[int]:
     return found
 
 
-def _fours(points: list[int], places: list[int]) -> list[Corners]:
-    """Fours of places among points as fours of points."""
-    corners = iter([points[place] for place in places])
-    return list(zip(corners, corners, corners, corners))
-
-
 class Replay:
     """Replays a record from the mesh that it starts with."""
 
@@ -174,30 +174,28 @@ class Replay:
         self.engine = fast.engine(self.of, options)
         self.search = search
         self.points = len(mesh.points)
-        self.region: list[int] = self.of.region.tolist()
-        may = np.flatnonzero(self.engine.touchable())
-        self.slots: dict[Corners, int] = dict(zip(map(tuple, self.of.corners[may].tolist()), may.tolist()))
 
-    def _cavity(self, what: dict[str, Any]) -> tuple[list[Corners], list[int], list[int]]:
-        """The fours, slots and points of a line's cavity; ValueError says what is not there."""
+    def _cavity(self, what: dict[str, Any]) -> tuple[list[int], list[int]]:
+        """The slots and points of a line's cavity; ValueError says what is not there."""
         points = _numbers(what, 'points', self.points)
         if not 4 <= len(points) <= MOST_POINTS or points != sorted(set(points)):
             raise ValueError('its points are not 4 to 16 ascending numbers')
         out = _numbers(what, 'out', len(points))
-        fours = _fours(points, out)
-        try:
-            slots = [self.slots[four] for four in fours]
-        except KeyError as missing:
-            raise ValueError(f'the mesh has no tetrahedron {missing}') from None
-        if len(set(slots)) != len(slots) or len(set(out)) != len(points) or len(out) % 4:
-            raise ValueError('a tetrahedron stands twice, or the points are not those of the cavity')
-        if len({self.region[slot] for slot in slots}) != 1:
+        if len(set(out)) != len(points) or len(out) % 4:
+            raise ValueError('its tetrahedra are no fours, or its points are not those of the cavity')
+        fours = np.array([points[place] for place in out], np.int32).reshape(-1, 4)
+        slots = self.engine.find(fours)
+        if -1 in slots:
+            raise ValueError(f'the mesh has no tetrahedron {tuple(fours[slots.index(-1)].tolist())}')
+        if len(set(slots)) != len(slots):
+            raise ValueError('a tetrahedron stands twice')
+        if len(set(self.engine.regions_of(slots))) != 1:
             raise ValueError('the cavity has tetrahedra of two regions')
-        return fours, slots, points
+        return slots, points
 
     def step(self, what: dict[str, Any]) -> bool:
         """Replays one line; whether its answer carries over to the doubles. ValueError says what does not hold."""
-        fours, slots, points = self._cavity(what)
+        slots, points = self._cavity(what)
         fill = _numbers(what, 'fill', len(points))
         engine, count = self.engine, len(fill) // 4
         engine.reopen(slots, points)
@@ -215,7 +213,7 @@ class Replay:
             raise ValueError(f'a and b are {int(a)} and {int(agrees)}, not as recorded')
         if self.search:
             self._search(what, fill)
-        self._exchange(fours, slots, _fours(points, fill))
+        engine.exchange(count)
         return a and agrees
 
     def _judge(self, what: dict[str, Any], count: int, allowed: bool, old: int) -> None:
@@ -236,18 +234,9 @@ class Replay:
         if found.number or found.worst != what.get('worst') or self.engine.answer[: 4 * found.count].tolist() != fill:
             raise ValueError('the search answers another filling')
 
-    def _exchange(self, gone: list[Corners], slots: list[int], came: list[Corners]) -> None:
-        region = self.region[slots[0]]
-        for four in gone:
-            del self.slots[four]
-        fresh = self.engine.exchange(len(came))
-        self.region.extend([region] * (max(fresh) + 1 - len(self.region)))
-        self.slots.update(zip(came, fresh))
-
     def ends_in(self, mesh: Mesh) -> bool:
         """Whether what is reached is this mesh, set for set, with its regions."""
-        may = np.array(sorted(self.slots.values()), np.int64)
-        still = self.of.kind != 0
+        may, still = np.flatnonzero(self.engine.touchable()), self.of.kind != 0
         reached = np.column_stack([np.concatenate([self.engine.fours()[may], self.of.corners[still]]), np.concatenate([self.engine.regions()[may], self.of.region[still]])])
         wanted = np.column_stack([np.sort(mesh.tets, axis=1), np.unique(mesh.regions, return_inverse=True)[1]])
         return reached.shape == wanted.shape and bool(np.array_equal(in_order(reached), in_order(wanted)))

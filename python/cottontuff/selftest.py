@@ -4,6 +4,7 @@ from __future__ import annotations
 import numpy as np
 
 from . import cavity, fast, kernel
+from .helper import helper, is_pure
 from .faults import Fault
 from .improve import example, improve
 from .neighbours import neighbours
@@ -20,7 +21,7 @@ def selftest() -> str:
         raise Fault(f'the kernel answers {filling} to the worked case')
     said = 'the kernel answers the worked case'
     of = neighbours(example())
-    loaded = None if fast.is_pure() else fast.helper()
+    loaded = None if is_pure() else helper()
     if loaded is None:
         said += ', without the helper'
     else:

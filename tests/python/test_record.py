@@ -129,7 +129,7 @@ def other_filling(before: Mesh, lines: Lines) -> tuple[int, list[int]]:
     replay = Replay(before, Options(), False)
     for row, line in enumerate(lines[1:-1], 1):
         engine = replay.engine
-        slots = [replay.slots[tuple(line['points'][i] for i in line['out'][k: k + 4])] for k in range(0, len(line['out']), 4)]
+        slots = replay.engine.find(np.array([line['points'][i] for i in line['out']], np.int32).reshape(-1, 4))
         engine.reopen(slots, line['points'])
         engine.prepare()
         job = engine.job()
