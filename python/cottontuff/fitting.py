@@ -80,7 +80,8 @@ def _fit_tag(blocks: list[Block], source: Source, target: Target) -> list[Block]
     merged: dict[str, list[Block]] = {}
     for block in blocks:
         used, tag = _tag(block, source)
-        data = {own: tag}
+        # tetgen's number is left out where the file has none; medit always has one.
+        data = {} if target.format == source.format == 'tetgen' and not used else {own: tag}
         for name, values in block.data.items():
             if target.format == source.format == 'tetgen' and name.startswith(own) and name != used:
                 data[name] = values  # meshio has no other names here than tetgen:ref2 and so on

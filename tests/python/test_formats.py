@@ -288,6 +288,13 @@ class RoundTrip(Test):
                 write(self.out / 'twice.msh', again)
                 self.assertEqual((self.out / name).read_bytes(), (self.out / 'twice.msh').read_bytes())
 
+    def test_tetgen_without_numbers(self) -> None:
+        """A pair of tetgen's in which tetrahedra have no number gets none."""
+        (self.out / 'a.node').write_text('5 3 0 0\n1 0 0 0\n2 1 0 0\n3 0 1 0\n4 0 0 1\n5 0 0 -1\n')
+        (self.out / 'a.ele').write_text('2 4 0\n1 1 2 3 4\n2 1 3 2 5\n')
+        self.assertEqual(write(self.out / 'b.ele', read(self.out / 'a.ele')), [])
+        self.assertIn('\n2 4 0\n', (self.out / 'b.ele').read_text())
+
     def test_gmsh_reads_ours(self) -> None:
         for name in MSH:
             write(self.out / name, read(HERE / name))
