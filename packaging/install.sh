@@ -1,5 +1,5 @@
 #!/bin/sh
-# Installs what the archive holds: libraries, header, pkg-config file, programs, manual pages, guide and Rust crate.
+# Installs what the archive holds: libraries, header, pkg-config file, programs, manual pages, guide, Rust crate and the sources of the Python package, which PREFIX/share/cottontuff/python/install installs.
 #   ./install.sh [PREFIX]     default /usr/local
 set -e
 prefix=${1:-/usr/local}
