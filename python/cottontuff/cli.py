@@ -145,7 +145,7 @@ def _progress(quiet: bool) -> tuple[Callable[[int, int, float], None] | None, Ca
     if quiet or not sys.stderr.isatty():
         return None, lambda: None
     from tqdm import tqdm
-    bar = tqdm(unit=' tets', leave=False, bar_format='{desc}: {bar} {n_fmt}/{total_fmt}{postfix}')
+    bar = tqdm(unit=' tets', leave=False, bar_format='{desc}{bar} {n_fmt}/{total_fmt}{postfix}')
     seen = {'pass': 0, 'total': 1}
 
     def show_it(number: int, left: int, worst: float) -> None:
