@@ -7,7 +7,7 @@ import unittest
 import setting  # noqa: F401  (finds the package, the library and the helper)
 
 import numpy as np
-from cottontuff import cavity, kernel, neighbours
+from cottontuff import cavity, exact, kernel, neighbours
 from cottontuff.mesh import Mesh, read
 
 
@@ -28,11 +28,11 @@ class Carrying(unittest.TestCase):
 
     def sides(self, job: cavity.Job) -> tuple[object, object, object]:
         """The answer on the rounded points, the answer on the points themselves, and the judge's word there on the former."""
-        exact = job.xyz.astype(np.int32)
+        whole = job.xyz.astype(np.int32)
         table = np.where(job.sign == 0, -1, np.where(job.value > job.worst, job.value, 0)).astype(np.int32)
         rounded = kernel.search(job.coordinates, job.triangles, job.table, kept=job.kept, inner=job.inner)
-        there = kernel.search(exact, job.triangles, table, kept=job.kept, inner=job.inner)
-        said = kernel.judge(exact, job.triangles, table, rounded.tets, kept=job.kept, inner=job.inner) if isinstance(rounded, kernel.Filling) else None
+        there = kernel.search(whole, job.triangles, table, kept=job.kept, inner=job.inner)
+        said = kernel.judge(whole, job.triangles, table, rounded.tets, kept=job.kept, inner=job.inner) if isinstance(rounded, kernel.Filling) else None
         return rounded, there, said
 
     def one(self, job: cavity.Job, seen: collections.Counter[str]) -> None:
@@ -68,6 +68,41 @@ class Carrying(unittest.TestCase):
             self.assertGreater(count, 50, f'{kind}: too few to say anything, of {dict(seen)}')
         if __name__ == '__main__':
             print(dict(sorted(seen.items())))
+
+
+BASE = [(0, 0, 0), (60, 0, 0), (0, 60, 0), (10, 10, 50), (10, 10, -50)]
+AWAY = [(10, -60, 40), (50, -60, 40), (20, -60, 80)]
+ROUND_THE_EDGE = [(0, 1, 3, 4), (0, 2, 3, 4), (1, 2, 3, 4)]
+
+
+class Examples(unittest.TestCase):
+    """The examples of docs/CARRYING.md in which one condition does not hold: the points stand for the doubles, a tenth of them for the rounded points. Entries: 5 for what betters the cavity, 1 for the rest."""
+
+    def answers(self, points: list[tuple[int, ...]], own: list[tuple[int, ...]], better: list[tuple[int, ...]]) -> list[tuple[object, object]]:
+        """On the points and on a tenth of them: the judge's word on the cavity, and the search's answer."""
+        whole = np.array(points)
+        of = neighbours.neighbours(Mesh(whole.astype(float), np.array(own), np.zeros(len(own), int)))
+        triangles = cavity.job(cavity.Cavity(cavity.Tetrahedra.of(of), tuple(range(len(own))), tuple(range(len(points))))).triangles
+        said = []
+        for at in (whole, np.rint(whole / 10).astype(int)):
+            every = cavity.fours(len(at))
+            entries = np.array([5 if tuple(four) in better else 1 for four in every.tolist()])
+            table = np.where(exact.signs(at.astype(float), every) == 0, -1, entries)
+            said.append((kernel.judge(at, triangles, table, own), kernel.search(at, triangles, np.where(table == 1, 0, table))))
+        return said
+
+    def test_overlap_that_rounding_hides(self) -> None:
+        (own, there), (rounded_own, rounded) = self.answers([*BASE, (20, 4, 19), *AWAY], [(0, 1, 2, 3), (0, 1, 2, 4), (5, 6, 7, 8)], [*ROUND_THE_EDGE, (5, 6, 7, 8)])
+        self.assertEqual((own.law, rounded_own.law, there.number, rounded.worst), (3, 0, 15, 5))
+
+    def test_overlap_that_rounding_makes(self) -> None:
+        (own, there), (rounded_own, rounded) = self.answers([*BASE, (20, 6, 31), *AWAY], [(0, 1, 2, 3), (0, 1, 2, 4), (5, 6, 7, 8)], [*ROUND_THE_EDGE, (5, 6, 7, 8)])
+        self.assertEqual((own.law, rounded_own.law, there.worst, rounded.number), (0, 3, 5, 15))
+
+    def test_a_four_that_rounding_flattens(self) -> None:
+        points = [*BASE[:3], (10, 1, 50), (10, 1, -50)]
+        (_, there), (_, rounded) = self.answers(points, [(0, 1, 2, 3), (0, 1, 2, 4)], ROUND_THE_EDGE)
+        self.assertEqual((there.tets.tolist(), rounded.number), ([list(four) for four in ROUND_THE_EDGE], 15))
 
 
 if __name__ == '__main__':
