@@ -71,9 +71,10 @@ install: all
 	install -m 644 man/*.1 $(to)/share/man/man1
 	install -m 644 docs/GUIDE.md CHANGELOG.md $(to)/share/doc/cottontuff
 	install -m 644 rust/Cargo.toml rust/build.rs rust/cottontuff.rs $(to)/share/cottontuff/rust
-	install -d $(to)/share/cottontuff/python/cottontuff
+	install -d $(to)/share/cottontuff/python/cottontuff $(to)/share/cottontuff/python/helper
 	install -m 644 python/cottontuff/*.py python/cottontuff/py.typed $(to)/share/cottontuff/python/cottontuff
-	install -m 644 python/helper.c python/cottontuff.1 $(to)/share/cottontuff/python
+	install -m 644 python/cottontuff.1 $(to)/share/cottontuff/python
+	install -m 644 python/helper/*.c python/helper/*.h $(to)/share/cottontuff/python/helper
 	install -m 755 python/install $(to)/share/cottontuff/python
 	install -m 644 docs/MESHES.md docs/PYTHON.md docs/CARRYING.md $(to)/share/doc/cottontuff
 

@@ -1,6 +1,6 @@
 """Cavities of a mesh: growth, the job for the kernel, the look at a filling in the file's own doubles, the exchange.
 
-This is the plain form, in Python and numpy. `fast` does the same over helper.c and is tested against it; with COTTONTUFF_PURE=1 this one is used throughout.
+This is the plain form, in Python and numpy. `fast` does the same over the helper in C and is tested against it; with COTTONTUFF_PURE=1 this one is used throughout.
 """
 from __future__ import annotations
 
@@ -16,11 +16,11 @@ from . import exact
 from .kernel import FURTHEST, MOST_POINTS
 from .measures import Floats, Ints, MeasureName, millionths, named, six_volumes
 from .mesh import OPPOSITE
-from .neighbours import DIRECTION, Neighbours
+from .neighbours import DIRECTION, EMPTY, Neighbours
 
 Four = tuple[int, int, int, int]
 Triangle = tuple[int, int, int]
-MOST_TETS = 512  # as in helper.c; a mesh has far fewer on 16 points
+MOST_TETS = 512  # as in helper/helper.h; a mesh has far fewer on 16 points
 
 
 @dataclasses.dataclass(frozen=True)
@@ -78,15 +78,22 @@ class Tetrahedra:
 
     def __init__(self, of: Neighbours, options: Options) -> None:
         self.points, self.options = of.points, options
-        self.corners: list[Four | None] = [None if a < 0 else (a, b, c, d) for a, b, c, d in of.corners.tolist()]
+        self.corners: list[Four | None] = [None if kind == EMPTY else (a, b, c, d) for kind, (a, b, c, d) in zip(of.kind.tolist(), of.corners.tolist())]
         self.sign: list[int] = np.where(of.kind == 0, of.sign, 0).tolist()
         self.region: list[int] = of.region.tolist()
         self.beside: list[list[int]] = of.beside.tolist()
-        self.quality: list[float] = options.values(of.points[of.corners]).tolist()
+        there, quality = of.kind != EMPTY, np.zeros(len(of.corners))
+        quality[there] = options.values(of.points[of.corners[there]])
+        self.quality: list[float] = quality.tolist()
         self.lines: set[tuple[int, int]] = {(a, b) for a, b in of.lines.tolist()}
-        self.at: list[set[int]] = [set() for _ in range(len(of.points))]
-        for slot, four in enumerate(of.corners.tolist()):
-            if self.sign[slot]:
+        self.at: list[set[int]] = []
+        self.enter()
+
+    def enter(self) -> None:
+        """Enters every slot that may be touched at its points."""
+        self.at = [set() for _ in range(len(self.points))]
+        for slot, four in enumerate(self.corners):
+            if four is not None and self.sign[slot]:
                 for point in four:
                     self.at[point].add(slot)
 

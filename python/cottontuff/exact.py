@@ -13,7 +13,7 @@ from fractions import Fraction
 import numpy as np
 from numpy.typing import NDArray
 
-from .helper import address, helper, is_pure
+from .helper import address, usable
 from .measures import Floats, Ints
 
 BOUND = 16 * 2.0**-53
@@ -53,7 +53,7 @@ def quickly_filtered(points: Floats, fours: Ints) -> tuple[NDArray[np.int8], NDA
     >>> quickly_filtered(np.array([[0., 0, 0], [1, 0, 0], [0, 1, 0], [0, 0, 1]]), np.array([[0, 1, 2, 3]]))
     (array([1], dtype=int8), array([ True]))
     """
-    loaded = None if is_pure() else helper()
+    loaded = usable()
     if loaded is None:
         return filtered(points, fours)
     places, rows = np.ascontiguousarray(points, np.float64), np.ascontiguousarray(fours, np.int64)

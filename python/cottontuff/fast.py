@@ -1,4 +1,4 @@
-"""The same as `cavity`, over helper.c: growth, jobs and exchanges in flat arrays. `engine` gives this one where the helper was built, else the plain one; with COTTONTUFF_PURE=1 always the plain one.
+"""The same as `cavity`, over the helper in C: growth, jobs and exchanges in flat arrays. `engine` gives this one where the helper was built, else the plain one; with COTTONTUFF_PURE=1 always the plain one.
 
 An engine has one open cavity at a time. `open`, `grow` and `prepare` lead to its job, `search` and `judge_own` ask the kernel, `recheck` and `exchange` put the answer in its place.
 """
@@ -6,8 +6,9 @@ from __future__ import annotations
 
 import ctypes
 import functools
+import json
 from fractions import Fraction
-from typing import Any, Protocol, Union
+from typing import Any, NamedTuple, Protocol, Union
 
 import numpy as np
 from numpy.typing import NDArray
@@ -15,16 +16,27 @@ from numpy.typing import NDArray
 from . import cavity, exact, kernel
 from .cavity import Job, Options
 from .faults import Fault
-from .helper import address as _address, helper, is_pure
+from .helper import address as _address, helper, usable
 from .kernel import ANSWER_BYTES, MOST_FOURS, MOST_POINTS, RawFound, RawVerdict
 from .measures import Floats, Ints
-from .neighbours import Neighbours
+from .neighbours import EMPTY, Neighbours
 
 _TRIANGLES, _TETS = 560, 512
 _MEASURES = {'shape': 0, 'gamma': 1}
 _GIVEN = 2
 _UNDECIDED = 2
+_LINE_BYTES = 11 * MOST_POINTS + 3 * (4 * _TETS + ANSWER_BYTES) + 200  # of a record's line at most
 SMALLEST_CAVITY, LARGEST_CAVITY = 2.0**-119, 2.0**121  # beyond that the measures leave the doubles
+
+
+class State(NamedTuple):
+    """The slots of an engine: corners, the first of them -1 where it is empty; what lies beside each face; the sign, 0 for what is not touched; region and quality."""
+
+    corners: NDArray[np.int32]
+    beside: NDArray[np.int32]
+    sign: NDArray[np.int8]
+    region: NDArray[np.int32]
+    quality: Floats
 
 
 class Engine(Protocol):
@@ -54,7 +66,11 @@ class Engine(Protocol):
     def regions(self) -> Ints: ...
     def find(self, fours: NDArray[np.int32]) -> list[int]: ...
     def regions_of(self, slots: list[int]) -> list[int]: ...
-    def beside(self) -> Ints: ...
+    def state(self) -> State: ...
+    def adopt(self, places: Ints, state: State) -> None: ...
+    def rejoin(self, slots: Ints, beside: Ints) -> None: ...
+    def line(self, count: int, old: int, worst: int, a: bool, b: bool) -> bytes: ...
+    def replay(self, text: bytes, start: int, number: int, search: bool) -> tuple[int, int, int]: ...
 
 
 _P = ctypes.c_void_p
@@ -63,7 +79,7 @@ _P = ctypes.c_void_p
 class _Mesh(ctypes.Structure):
     _fields_ = [(name, _P) for name in (
         'points', 'corners', 'beside', 'region', 'sign', 'quality', 'head', 'next', 'previous', 'cavity_mark', 'around_mark', 'point_mark', 'local', 'line_start', 'line_end',
-    )] + [('slots', ctypes.c_int64), ('capacity', ctypes.c_int64)] + [(name, ctypes.c_int32) for name in ('mark', 'step', 'limit', 'measure', 'ranked')]
+    )] + [('slots', ctypes.c_int64), ('capacity', ctypes.c_int64), ('point_count', ctypes.c_int64)] + [(name, ctypes.c_int32) for name in ('mark', 'step', 'limit', 'measure', 'ranked')]
 
 
 class _Cavity(ctypes.Structure):
@@ -87,7 +103,7 @@ def _fits() -> bool:
 
 
 class FastEngine:
-    """The engine over helper.c."""
+    """The engine over the helper in C."""
 
     def __init__(self, of: Neighbours, options: Options, loaded: ctypes.CDLL) -> None:
         self.options, self.helper, self.library = options, loaded, kernel.library()
@@ -99,23 +115,28 @@ class FastEngine:
             self.arrays[name] = np.full(points, fill, np.int32)
         self.arrays['line_start'] = np.searchsorted(of.lines[:, 0], np.arange(points + 1)).astype(np.int32)
         self.arrays['line_end'] = np.ascontiguousarray(of.lines[:, 1], np.int32)
-        self.mesh = _Mesh(slots=count, capacity=count + count // 4 + 64, limit=options.limit, ranked=options.ranked)
+        self.mesh = _Mesh(slots=count, capacity=count + count // 4 + 64, point_count=points, limit=options.limit, ranked=options.ranked)
         self.mesh.measure = _MEASURES[options.measure] if isinstance(options.measure, str) else _GIVEN
         self._point()
         self.at = ctypes.addressof(self.mesh)
         self.cavity = _Cavity()
         self.cavity_at = ctypes.addressof(self.cavity)
         self._views()
+        if self.mesh.measure == _GIVEN:
+            there = of.kind != EMPTY
+            self.arrays['quality'][:count][there] = options.values(of.points[of.corners[there]])
+        else:
+            loaded.helper_measure(self.at)
         loaded.helper_link(self.at)
 
     def _slots(self, of: Neighbours, capacity: int) -> None:
         count = len(of.corners)
         for name, values, kind in (('corners', of.corners, np.int32), ('beside', of.beside, np.int32), ('region', of.region, np.int32), ('sign', np.where(of.kind == 0, of.sign, 0), np.int8)):
-            room = np.full((capacity, *values.shape[1:]), -1 if kind == np.int32 else 0, kind)
+            room = np.empty((capacity, *values.shape[1:]), kind)
             room[:count] = values
             self.arrays[name] = room
-        self.arrays['quality'] = np.zeros(capacity)
-        self.arrays['quality'][:count] = self.options.values(of.points[of.corners])
+        self.arrays['corners'][:count][of.kind == EMPTY, 0] = -1
+        self.arrays['quality'] = np.empty(capacity)
         for name, rows in (('next', 4), ('previous', 4), ('cavity_mark', 1), ('around_mark', 1)):
             self.arrays[name] = np.zeros(rows * capacity, np.int32)
 
@@ -128,6 +149,8 @@ class FastEngine:
         self.view: dict[str, NDArray[Any]] = {name: np.frombuffer(getattr(self.cavity, name), kind._type_) for name, kind, *_ in _Cavity._fields_ if hasattr(kind, '_length_')}  # type: ignore[attr-defined]
         self.where = {name: _address(view) for name, view in self.view.items()}
         self.answer_at = _address(self.answer)
+        self.room = np.zeros(_LINE_BYTES, np.uint8)
+        self.line_at = _address(self.room)
 
     def _enlarge(self) -> None:
         capacity = 2 * int(self.mesh.capacity)
@@ -269,8 +292,36 @@ class FastEngine:
         regions: list[int] = self.arrays['region'][slots].tolist()
         return regions
 
-    def beside(self) -> Ints:
-        return self.arrays['beside'][: self.mesh.slots].astype(np.int64)
+    def state(self) -> State:
+        """The slots as they are now; not to be changed."""
+        return State(*(self.arrays[name][: self.mesh.slots] for name in State._fields))
+
+    def adopt(self, places: Ints, state: State) -> None:
+        """Takes over slots of another engine, which stand here at these places. `rejoin` must follow."""
+        self.mesh.slots = max(int(self.mesh.slots), int(places.max()) + 1)
+        while self.mesh.slots > self.mesh.capacity:
+            self._enlarge()
+        for name, values in state._asdict().items():
+            self.arrays[name][places] = np.append(places, -1)[values] if name == 'beside' else values
+
+    def rejoin(self, slots: Ints, beside: Ints) -> None:
+        """Says what lies beside these slots, and enters every slot into the lists of its points."""
+        self.arrays['beside'][slots] = beside
+        self.arrays['head'].fill(-1)
+        self.helper.helper_link(self.at)
+
+    def line(self, count: int, old: int, worst: int, a: bool, b: bool) -> bytes:
+        """The line of a record, behind its number, for the answer in the open cavity's place."""
+        size = self.helper.helper_line(self.cavity_at, self.answer_at, count, old, worst, a, b, self.line_at)
+        return self.room[:size].tobytes()
+
+    def replay(self, text: bytes, start: int, number: int, search: bool) -> tuple[int, int, int]:
+        """Replays lines of a record from a place in a text on, the first with this number, as long as they hold; how many, how many bytes they have, how many carry over."""
+        whole, done = np.frombuffer(text, np.uint8), np.zeros(3, np.int64)
+        judge, ask = (ctypes.cast(function, _P).value for function in (self.library.cottontuff_judge_inner, self.library.cottontuff_search_inner))
+        self.helper.helper_replay(self.at, self.cavity_at, judge, ask if search else None, _address(whole) + start, len(text) - start, number, _address(done))
+        count, size, carried = done.tolist()
+        return count, size, carried
 
 
 class PlainEngine:
@@ -381,8 +432,35 @@ class PlainEngine:
     def regions_of(self, slots: list[int]) -> list[int]:
         return [self.mesh.region[slot] for slot in slots]
 
-    def beside(self) -> Ints:
-        return np.array(self.mesh.beside, np.int64).reshape(-1, 4)
+    def state(self) -> State:
+        beside = np.array(self.mesh.beside, np.int32).reshape(-1, 4)
+        return State(self.fours().astype(np.int32), beside, self.signs(), np.array(self.mesh.region, np.int32), self.qualities())
+
+    def adopt(self, places: Ints, state: State) -> None:
+        """Takes over slots of another engine, which stand here at these places. `rejoin` must follow."""
+        mesh, lookup = self.mesh, [*places.tolist(), -1]
+        more = max(0, max(lookup) + 1 - len(mesh.corners))
+        for part in (mesh.corners, mesh.sign, mesh.region, mesh.quality, mesh.beside):
+            part.extend([None] * more)  # type: ignore[attr-defined]
+        for slot, place in enumerate(places.tolist()):
+            a, b, c, d = state.corners[slot].tolist()
+            mesh.corners[place], mesh.beside[place] = None if a < 0 else (a, b, c, d), [lookup[x] for x in state.beside[slot].tolist()]
+            mesh.sign[place], mesh.region[place], mesh.quality[place] = int(state.sign[slot]), int(state.region[slot]), float(state.quality[slot])
+
+    def rejoin(self, slots: Ints, beside: Ints) -> None:
+        """Says what lies beside these slots, and enters every slot into the lists of its points."""
+        for slot, row in zip(slots.tolist(), beside.tolist()):
+            self.mesh.beside[slot] = row
+        self.mesh.enter()
+
+    def line(self, count: int, old: int, worst: int, a: bool, b: bool) -> bytes:
+        """The line of a record, behind its number, for the answer in the open cavity's place."""
+        what = {'points': self.cavity_points(), 'out': self.own_fours(), 'fill': self.answer[: 4 * count].tolist(), 'old': old, 'worst': worst, 'a': int(a), 'b': int(b)}
+        return json.dumps(what, separators=(',', ':'))[1:].encode() + b'\n'
+
+    def replay(self, text: bytes, start: int, number: int, search: bool) -> tuple[int, int, int]:
+        """None: each line is replayed by `record`."""
+        return 0, 0, 0
 
 
 def engine(of: Neighbours, options: Options = Options()) -> Union[FastEngine, PlainEngine]:
@@ -393,7 +471,7 @@ def engine(of: Neighbours, options: Options = Options()) -> Union[FastEngine, Pl
     >>> made.grow(16), made.cavity_points()
     (5, [0, 1, 2, 3, 4])
     """
-    loaded = None if is_pure() else helper()
+    loaded = usable()
     if loaded is not None and not _fits():
         raise Fault('the helper is of another version than the package; python/install builds both')
     return PlainEngine(of, options) if loaded is None else FastEngine(of, options, loaded)
@@ -405,7 +483,7 @@ def volume6(points: Floats, tets: Ints) -> Fraction:
     >>> volume6(np.array([[0, 0, 0], [.5, 0, 0], [0, .5, 0], [0, 0, .5]]), np.array([[0, 1, 2, 3]]))
     Fraction(1, 8)
     """
-    loaded = None if is_pure() else helper()
+    loaded = usable()
     used, local = np.unique(tets, return_inverse=True)
     if loaded is not None and len(used):
         xyz = np.ascontiguousarray(points[used])

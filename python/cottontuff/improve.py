@@ -26,21 +26,9 @@ from .report import summarize
 SIZES = (5, 6, 8, 11, 16)
 # A strict rise ends by itself. A measure that gives one tetrahedron two values need not: then it stops here, and says so.
 MOST_EXCHANGES = 20
+NEVER = float('inf')
 Progress = Callable[[int, int, float], None]
-
-
-@dataclasses.dataclass(frozen=True)
-class Exchange:
-    """A replacement, as the record has it: the cavity's points, its tetrahedra and the filling as fours of their places, the worst entries, and whether the kernel's answer carries over to the doubles:
-    a, the judge finds the cavity's own lawful on the rounded points; b, every four that is solid in the doubles and better than its worst has the same sign rounded (docs/CARRYING.md)."""
-
-    points: list[int]
-    out: list[int]
-    fill: list[int]
-    old: int
-    worst: int
-    a: bool
-    b: bool
+Note = Callable[[bytes], None]  # takes the line of a record, behind its number
 
 
 @dataclasses.dataclass
@@ -80,14 +68,15 @@ class Counts:
 class Run:
     """Betters the mesh of an engine, pass by pass."""
 
-    def __init__(self, of: Neighbours, options: Options, below: float, sizes: Sequence[int], note: Callable[[Exchange], None], stop: Callable[[], bool]) -> None:
+    def __init__(self, of: Neighbours, options: Options, below: float, sizes: Sequence[int], note: Note | None, stop: Callable[[], bool]) -> None:
         self.engine = fast.engine(of, options)
         self.below, self.sizes, self.note, self.stop = below * 1e6, sizes, note, stop
         self.counts = Counts()
         self.passes: list[dict[str, Any]] = []
         self.now = 0
         self.touched = [0] * len(of.points)
-        self.failed: dict[int, tuple[int, list[int]]] = {}
+        self.failed: dict[int, tuple[float, list[int]]] = {}  # when a slot was tried last, and the points of its cavity then
+        self.later = b''  # by point: 1 where what fails there is tried again in a run to come, and not in this one
         self.fresh: set[int] = set()
         self.gone: list[int] = []
         self.ended = False
@@ -96,9 +85,9 @@ class Run:
         self.most = MOST_EXCHANGES * len(of.corners) + 1000
 
     def is_settled(self, slot: int) -> bool:
-        """Whether it was tried before and no point of its last cavity was touched since: growth and answer would be the same.
+        """Whether it was tried before and no point of its last cavity was touched since: growth and answer would be the same. Or whether it is for a run to come.
 
-        >>> Run(neighbours(example()), Options(), 0.3, SIZES, lambda exchange: None, lambda: False).is_settled(0)
+        >>> Run(neighbours(example()), Options(), 0.3, SIZES, None, lambda: False).is_settled(0)
         False
         """
         before = self.failed.get(slot)
@@ -107,7 +96,7 @@ class Run:
     def attempt(self, slot: int) -> list[int] | None:
         """Opens a tetrahedron and exchanges the first of its cavities that can be bettered; the slots of what came in, or None.
 
-        >>> run = Run(neighbours(example()), Options(), 0.3, SIZES, lambda exchange: None, lambda: False)
+        >>> run = Run(neighbours(example()), Options(), 0.3, SIZES, None, lambda: False)
         >>> sorted(run.attempt(0))
         [0, 1, 2]
         """
@@ -128,7 +117,8 @@ class Run:
                 return found
             if self.ended or reached < size:
                 break
-        self.failed[slot] = (self.now, engine.cavity_points())
+        points = engine.cavity_points()
+        self.failed[slot] = (NEVER if self.later and any(self.later[point] for point in points) else self.now, points)
         return None
 
     def _give_up(self, why: str) -> None:
@@ -175,7 +165,8 @@ class Run:
             self._give_up('the look at the filling in doubles failed')
             return None
         points, self.gone = engine.cavity_points(), engine.cavity_tets()
-        self.note(Exchange(points, engine.own_fours(), engine.answer[: 4 * count].tolist(), old, worst, a, b))
+        if self.note is not None:
+            self.note(engine.line(count, old, worst, a, b))
         fresh = engine.exchange(count)
         self.now += 1
         for point in points:
@@ -191,7 +182,7 @@ class Run:
     def run(self, passes: int | None, progress: Progress | None) -> None:
         """Passes until one brings nothing, or so many.
 
-        >>> run = Run(neighbours(example()), Options(), 0.9, SIZES, lambda exchange: None, lambda: False)
+        >>> run = Run(neighbours(example()), Options(), 0.9, SIZES, None, lambda: False)
         >>> run.run(None, None)
         >>> [done['exchanges'] for done in run.passes]
         [1, 0]
@@ -202,7 +193,7 @@ class Run:
             before, start = self.counts.exchanges, time.process_time()
             searches = self.counts.searches
             bad = self._one_pass(number, progress)
-            alive = self.engine.qualities()[self.engine.fours()[:, 0] >= 0]
+            alive = self.engine.qualities()[self.engine.state().corners[:, 0] >= 0]
             self.passes.append({
                 'number': number, 'bad': bad, 'exchanges': self.counts.exchanges - before, 'searches': self.counts.searches - searches,
                 'worst': float(alive.min()), 'below': int((alive < self.below).sum()), 'seconds': round(time.process_time() - start, 3),
@@ -272,19 +263,19 @@ def _look_at(below: float, sizes: Sequence[int], measure: MeasureName, table: st
 def result_mesh(mesh: Mesh, of: Neighbours, run: Run) -> Mesh:
     """The mesh of a run: what was not touched stands as in the file and in its order, then what is new, its corners the way round that most of the file's have.
 
-    >>> run = Run(neighbours(example()), Options(), 0.9, SIZES, lambda exchange: None, lambda: False)
+    >>> run = Run(neighbours(example()), Options(), 0.9, SIZES, None, lambda: False)
     >>> run.run(None, None)
     >>> result_mesh(example(), neighbours(example()), run).tets.tolist()
     [[1, 0, 3, 4], [0, 2, 3, 4], [2, 1, 3, 4]]
     """
-    fours = run.engine.fours()
-    fresh = np.array(sorted(run.fresh), np.int64)
-    old = np.setdiff1d(np.flatnonzero(fours[:, 0] >= 0), fresh)
-    new, sign = fours[fresh], run.engine.signs()[fresh]
-    turned = sign != of.handed
+    state, fresh = run.engine.state(), np.array(sorted(run.fresh), np.int64)
+    stays = state.corners[:, 0] >= 0
+    stays[fresh] = False
+    old = np.flatnonzero(stays)
+    new, turned = state.corners[fresh].astype(np.int64), state.sign[fresh] != of.handed
     new[turned] = new[turned][:, [1, 0, 2, 3]]
     names = np.unique(mesh.regions)
-    regions = np.concatenate([mesh.regions[old], names[run.engine.regions()[fresh]]]) if len(fresh) else mesh.regions[old]
+    regions = np.concatenate([mesh.regions[old], names[state.region[fresh]]]) if len(fresh) else mesh.regions[old]
     origin = mesh.origin if mesh.origin is not None else np.arange(len(mesh.tets))
     return dataclasses.replace(
         mesh, tets=np.concatenate([mesh.tets[old], new]), regions=regions, origin=np.concatenate([origin[old], np.full(len(fresh), -1, np.int64)]),
@@ -332,9 +323,10 @@ def improve(
     setup = time.process_time() - start
     with records.Writer(record, mesh, options, below, sizes) as writer:
         if jobs > 1:
-            run = parts.run(mesh, of, options, below, sizes, passes, jobs, writer.write, progress, stop or _never)
+            run = parts.run(of, options, below, sizes, passes, jobs, writer.note, writer.begin, progress, stop or _never)
         else:
-            run = Run(of, options, below, sizes, writer.write, stop or _never)
+            writer.begin()
+            run = Run(of, options, below, sizes, writer.note, stop or _never)
             run.run(passes, progress)
         better = result_mesh(mesh, of, run)
         writer.close(better)

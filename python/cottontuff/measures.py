@@ -1,7 +1,7 @@
 """Measures of a tetrahedron, in doubles.
 
 A measure takes corners, an array (n, 4, 3), and gives n numbers above 0, the greatest of them 1 for the regular tetrahedron; corners stand in ascending order of their points' numbers, so that
-a tetrahedron has one value wherever it is measured. The operations and their order are those of helper.c: both give the same doubles, bit for bit.
+a tetrahedron has one value wherever it is measured. The operations and their order are those of helper/doubles.h: both give the same doubles, bit for bit.
 """
 from __future__ import annotations
 

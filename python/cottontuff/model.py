@@ -2,6 +2,7 @@
 from __future__ import annotations
 
 import dataclasses
+import itertools
 import pathlib
 from typing import Any
 
@@ -112,8 +113,9 @@ def checked(mesh: Mesh) -> Mesh:
         rows = np.zeros((0, width), np.int64) if rows.size == 0 else rows
         if rows.dtype.kind not in 'iu' or rows.ndim != 2 or rows.shape[1] != width:
             raise ValueError(f'{name}: rows of {width} whole numbers, not {rows.dtype} of shape {rows.shape}')
-        ascending = np.sort(rows.astype(np.int64), axis=1)
-        wrong = (ascending[:, 0] < 0) | (ascending[:, -1] >= len(points)) | (ascending[:, 1:] == ascending[:, :-1]).any(axis=1)
+        wrong = (rows < 0).any(axis=1) | (rows >= len(points)).any(axis=1) if rows.size and (rows.min() < 0 or rows.max() >= len(points)) else np.zeros(len(rows), np.bool_)
+        for i, j in itertools.combinations(range(width), 2):
+            wrong |= rows[:, i] == rows[:, j]
         if wrong.any():
             raise ValueError(f'{name}: row {int(np.argmax(wrong))} names an absent point, or one twice')
         cells.append(np.ascontiguousarray(rows, np.int64))

@@ -11,6 +11,7 @@ import numpy as np
 from numpy.typing import NDArray
 
 from . import exact
+from .helper import address, usable
 from .measures import Floats, Ints
 from .mesh import OPPOSITE, Mesh
 
@@ -121,10 +122,30 @@ def neighbours(mesh: Mesh) -> Neighbours:
     handed = 1 if int((in_file > 0).sum()) >= int((in_file < 0).sum()) else -1
     _, region = np.unique(mesh.regions, return_inverse=True)
     shut = np.sort(mesh.faces, axis=1).reshape(-1, 3)
-    own, order, tagged = _keys(corners, shut, len(mesh.points))
-    kind = _kinds(sign, own, order, in_file == -handed)
+    kind, beside = joined(corners, region.astype(np.int64), np.where(sign == 0, FLAT, SOUND).astype(np.int8), shut, len(mesh.points), (sign, in_file == -handed))
     lines = np.unique(np.sort(mesh.lines, axis=1), axis=0).reshape(-1, 2).astype(np.int64)
-    return Neighbours(mesh.points, corners, sign, region.astype(np.int64), _beside(kind, region, own, order, tagged), kind, lines, shut, handed)
+    return Neighbours(mesh.points, corners, sign, region.astype(np.int64), beside, kind, lines, shut, handed)
+
+
+def joined(corners: Ints, region: Ints, kind: Flags, shut: Ints, points: int, looked: tuple[Flags, NDArray[np.bool_]] | None = None) -> tuple[Flags, Ints]:
+    """The kinds of tetrahedra, and what lies beside each of their faces; by the helper where there is one. looked has the signs, and which stand the other way round than most, where those that
+    overlap are to be found.
+
+    >>> joined(np.array([[0, 1, 2, 3], [0, 1, 2, 4]]), np.array([7, 7]), np.zeros(2, np.int8), np.zeros((0, 3), np.int64), 5)[1].tolist()
+    [[-1, -1, -1, 1], [-1, -1, -1, 0]]
+    """
+    loaded, count = usable(), len(corners)
+    if loaded is None or max(points, 4 * count) >= 2**31:
+        own, order, tagged = _keys(corners, shut, points)
+        kind = kind if looked is None else _kinds(looked[0], own, order, looked[1])
+        return kind, _beside(kind, region, own, order, tagged)
+    given = [np.ascontiguousarray(array) for array in (corners, region, shut, *(looked or ()))]
+    signs, against = (address(given[3]), address(given[4])) if looked is not None else (None, None)
+    found, beside = kind.copy(), np.empty((count, 4), np.int64)
+    bits = max(count.bit_length() - 1, 1)
+    ends, sides = np.empty(1 << bits, np.int64), np.empty((4 * count + len(shut), 4), np.int32)
+    loaded.helper_beside(address(given[0]), count, address(given[1]), address(given[2]), len(shut), bits, signs, against, address(found), address(beside), address(ends), address(sides))
+    return found, beside
 
 
 def _keys(corners: Ints, shut: Ints, points: int) -> tuple[Ints, Ints, Ints]:
@@ -132,20 +153,3 @@ def _keys(corners: Ints, shut: Ints, points: int) -> tuple[Ints, Ints, Ints]:
     keys = face_keys(np.concatenate([_all_faces(corners), shut]), points)
     own = keys[: 4 * len(corners)]
     return own, np.argsort(own, kind='stable'), np.unique(keys[4 * len(corners):])
-
-
-def rejoined(of: Neighbours, corners: Ints, sign: Flags, region: Ints, kind: Flags, beside: Ints) -> Neighbours:
-    """The neighbours of other tetrahedra on the same points, joined over the faces that have nothing beside them; those of the kind EMPTY are none.
-
-    >>> two = Mesh(np.array([[0., 0, 0], [1, 0, 0], [0, 1, 0], [0, 0, 1], [0, 0, -1]]), np.array([[0, 1, 2, 3], [0, 2, 1, 4]]), np.array([7, 7]))
-    >>> of, alone = neighbours(two), np.full((2, 4), -1)
-    >>> rejoined(of, of.corners, of.sign, of.region, of.kind, alone).beside.tolist()
-    [[-1, -1, -1, 1], [-1, -1, -1, 0]]
-    """
-    # All four faces of the tetrahedra that have one open: `_beside` wants whole ones.
-    open_ones = np.flatnonzero((beside < 0).any(axis=1) & (kind != EMPTY))
-    own, order, tagged = _keys(corners[open_ones], of.shut, len(of.points))
-    found = _beside(kind[open_ones], region[open_ones], own, order, tagged)
-    beside = beside.copy()
-    beside[open_ones] = np.where((beside[open_ones] < 0) & (found >= 0), open_ones[found], beside[open_ones])
-    return dataclasses.replace(of, corners=corners, sign=sign, region=region, beside=beside, kind=kind)

@@ -1,11 +1,13 @@
 """A mesh in parts, each bettered by a process of its own, then the whole once more.
 
-Parts are regions: a cut is a border, its faces stay, so what the processes do does not touch. What failed in a part with no point on a cut would fail in the whole too, by the same growth and the same
-answer, and is not tried again. The answer depends on how many parts there are, never on how fast they are.
+Parts are regions: a cut is a border, its faces stay, so what the processes do does not touch. This process takes the first part, and goes on over the whole when it has taken over what the others
+made of theirs. What failed in a part with no point on a cut would fail in the whole too, by the same growth and the same answer, and is not tried again; what failed with one is left to the whole.
+The answer depends on how many parts there are, never on how fast they are.
 """
 from __future__ import annotations
 
 import dataclasses
+import gc
 import multiprocessing
 import time
 from multiprocessing.connection import Connection, wait
@@ -15,26 +17,49 @@ import numpy as np
 from numpy.typing import NDArray
 
 from .cavity import Options
+from .fast import Engine, State
 from .faults import Fault
-from .improve import Counts, Exchange, Progress, Run
-from .measures import Floats, Ints
-from .mesh import Mesh
-from .neighbours import EMPTY, Neighbours, rejoined
+from .improve import NEVER, Counts, Note, Progress, Run
+from .measures import Ints
+from .neighbours import EMPTY, FLAT, SOUND, Neighbours, joined
 
 
-def bisect(centres: Floats, slots: Ints, parts: int) -> list[Ints]:
-    """Cuts slots into parts of the same size, again and again across the longest side of their box.
+FEWER = 0.02  # by this much the first part is smaller: its process also sets up the whole, and begins the record
 
-    >>> [part.tolist() for part in bisect(np.array([[0., 0, 0], [9, 0, 0], [1, 0, 0], [8, 0, 0]]), np.arange(4), 2)]
-    [[0, 2], [1, 3]]
+
+def bisect(of: Neighbours, slots: Ints, parts: int, fewer: float = FEWER) -> list[Ints]:
+    """Cuts ascending slots into parts of the same size, but for the first, again and again across the longest side of the box around their corners, by the centres.
+
+    >>> from .cavity import two_beside
+    >>> [part.tolist() for part in bisect(two_beside(), np.arange(2), 2, 0)]
+    [[1], [0]]
     """
     if parts == 1:
-        return [np.sort(slots)]
-    mine = centres[slots]
-    axis = int(np.argmax(mine.max(0) - mine.min(0)))
-    order = slots[np.argsort(mine[:, axis], kind='stable')]
-    cut = len(order) * (parts // 2) // parts
-    return bisect(centres, order[:cut], parts // 2) + bisect(centres, order[cut:], parts - parts // 2)
+        return [slots]
+    corners, used = of.corners[slots], np.zeros(len(of.points), np.bool_)
+    used[corners] = True
+    along = int(np.argmax(np.ptp(0.25 * of.points[used], axis=0)))
+    centres = (0.25 * of.points[:, along])[corners].sum(axis=1)
+    cut = int(len(slots) * (parts // 2 - fewer) / (parts - fewer))
+    border = np.partition(centres, cut)[cut]
+    first = centres < border
+    first[np.flatnonzero(centres == border)[: cut - int(first.sum())]] = True  # of those on the border the lowest
+    return bisect(of, slots[first], parts // 2, fewer) + bisect(of, slots[~first], parts - parts // 2, 0)
+
+
+def on_cuts(of: Neighbours, parts: list[Ints]) -> NDArray[np.bool_]:
+    """Which points are corners in more than one part. That stays so: a point of a cavity is a corner of its filling.
+
+    >>> from .cavity import two_beside
+    >>> on_cuts(two_beside(), [np.array([1]), np.array([0])]).tolist()
+    [True, True, True, False, False]
+    """
+    often = np.zeros(len(of.points), np.int64)
+    for slots in parts:
+        here = np.zeros(len(of.points), np.bool_)
+        here[of.corners[slots]] = True
+        often += here
+    return often > 1
 
 
 def part_of(of: Neighbours, slots: Ints) -> Neighbours:
@@ -49,17 +74,28 @@ def part_of(of: Neighbours, slots: Ints) -> Neighbours:
     return dataclasses.replace(of, corners=of.corners[slots], sign=of.sign[slots], region=of.region[slots], beside=new[of.beside[slots]], kind=of.kind[slots])
 
 
+def alone(of: Neighbours, slots: Ints) -> Neighbours:
+    """The same with every slot at its place: those of other parts count as empty.
+
+    >>> from .cavity import two_beside
+    >>> alone(two_beside(), np.array([1])).kind.tolist(), alone(two_beside(), np.array([1])).beside[1].tolist()
+    ([4, 0], [-1, -1, -1, -1])
+    """
+    here = np.zeros(len(of.corners), np.bool_)
+    here[slots] = True
+    beside = of.beside.copy()
+    beside[slots] = np.where(here[beside[slots]], beside[slots], -1)
+    return dataclasses.replace(of, beside=beside, kind=np.where(here, of.kind, EMPTY).astype(np.int8))
+
+
 @dataclasses.dataclass
 class Done:
     """What a process gives back of its part."""
 
-    fours: Ints
-    beside: Ints
-    sign: NDArray[np.int8]
-    region: Ints
-    fresh: list[int]
+    state: State
+    fresh: Ints
     settled: dict[int, list[int]]
-    exchanges: list[Exchange]
+    lines: bytes
     counts: Counts
     passes: list[dict[str, Any]]
     interrupted: bool
@@ -77,6 +113,8 @@ class _Shared:
     passes: int | None
     stop: Callable[[], bool]
     parts: list[Ints]
+    cut: bytes  # by point: 1 where it is a corner in several parts
+    noted: bool
     shown: Any
 
 
@@ -86,118 +124,138 @@ _shared: _Shared | None = None
 def _work(number: int) -> Done:
     assert _shared is not None
     shared, start = _shared, time.process_time()
-    exchanges: list[Exchange] = []
+    lines: list[bytes] = []
 
     def show(done: int, left: int, worst: float) -> None:
         shared.shown[3 * number: 3 * number + 3] = [done, left, worst]
 
-    run = Run(part_of(shared.of, shared.parts[number]), shared.options, shared.below, shared.sizes, exchanges.append, shared.stop)
+    run = Run(part_of(shared.of, shared.parts[number]), shared.options, shared.below, shared.sizes, lines.append if shared.noted else None, shared.stop)
+    run.later = shared.cut
     run.run(shared.passes, show)
-    engine = run.engine
-    settled = {slot: points for slot, (_, points) in run.failed.items() if run.is_settled(slot)}
-    return Done(engine.fours(), engine.beside(), engine.signs(), engine.regions(), sorted(run.fresh), settled, exchanges, run.counts, run.passes, run.interrupted, time.process_time() - start)
+    settled = {slot: points for slot, (when, points) in run.failed.items() if when != NEVER and run.is_settled(slot)}
+    fresh = np.array(sorted(run.fresh), np.int64)
+    return Done(run.engine.state(), fresh, settled, b''.join(lines), run.counts, run.passes, run.interrupted, time.process_time() - start)
 
 
 def _send(number: int, there: Connection) -> None:
     """Betters a part and sends what came of it, or what went wrong."""
+    gc.disable()  # it would look at all that the process was started with, and have each page of it copied
     try:
         there.send(_work(number))
     except BaseException as fault:
         there.send(fault)
 
 
-def _gathered(waiting: dict[Connection, int], shared: _Shared, progress: Progress | None) -> list[Done]:
-    """What the processes send, in the order of the parts; what they show of themselves meanwhile is shown together."""
-    done: dict[int, Done] = {}
-    while waiting:
-        for ready in wait(list(waiting), 0.2):
-            assert isinstance(ready, Connection)
-            try:
-                answer = ready.recv()
-            except EOFError:
-                raise Fault('a process ended before its part was done: it was killed, or the memory did not suffice') from None
-            if isinstance(answer, BaseException):
-                raise answer
-            done[waiting.pop(ready)] = answer
-        shown = np.array(shared.shown[:]).reshape(-1, 3)
-        if progress is not None and shown[:, 0].any():
-            progress(int(shown[:, 0].max()), int(shown[:, 1].sum()), float(shown[shown[:, 0] > 0, 2].min()))
-    return [done[number] for number in sorted(done)]
+def _shown(shared: _Shared, progress: Progress | None) -> None:
+    """Shows together what the processes show of themselves."""
+    shown = np.array(shared.shown[:]).reshape(-1, 3)
+    if progress is not None and shown[:, 0].any():
+        progress(int(shown[:, 0].max()), int(shown[:, 1].sum()), float(shown[shown[:, 0] > 0, 2].min()))
 
 
-def _all_parts(shared: _Shared, progress: Progress | None) -> list[Done]:
-    """Runs a process for each part. However it ends, none of them is left behind."""
-    global _shared
-    _shared = shared
-    context = multiprocessing.get_context('fork')
-    started, waiting = [], {}
-    try:
-        for number in range(len(shared.parts)):
+class _Others:
+    """A process for each part but the first. However it ends, none of them is left behind."""
+
+    def __init__(self, shared: _Shared) -> None:
+        global _shared
+        _shared, self.shared = shared, shared
+        self.started: list[Any] = []
+        self.waiting: dict[Connection, int] = {}
+
+    def __enter__(self) -> _Others:
+        context = multiprocessing.get_context('fork')
+        for number in range(1, len(self.shared.parts)):
             here, there = context.Pipe(duplex=False)
-            waiting[here] = number
+            self.waiting[here] = number
             process = context.Process(target=_send, args=(number, there), daemon=True)
             process.start()
             there.close()  # so that the process's own end is the last: when it dies, this side hears of it
-            started.append(process)
-        return _gathered(dict(waiting), shared, progress)
-    finally:
+            self.started.append(process)
+        return self
+
+    def gathered(self, progress: Progress | None) -> list[Done]:
+        """What they send, in the order of the parts."""
+        done: dict[int, Done] = {}
+        while len(done) < len(self.waiting):
+            for ready in wait([here for here, number in self.waiting.items() if number not in done], 0.2):
+                assert isinstance(ready, Connection)
+                try:
+                    answer = ready.recv()
+                except EOFError:
+                    raise Fault('a process ended before its part was done: it was killed, or the memory did not suffice') from None
+                if isinstance(answer, BaseException):
+                    raise answer
+                done[self.waiting[ready]] = answer
+            _shown(self.shared, progress)
+        return [done[number] for number in sorted(done)]
+
+    def __exit__(self, *_: object) -> None:
+        global _shared
         _shared = None
-        for process in started:
+        for process in self.started:
             process.terminate()
             process.join()
-        for here in waiting:
+        for here in self.waiting:
             here.close()
 
 
-def _together(of: Neighbours, parts: list[Ints], done: list[Done]) -> tuple[Neighbours, list[Ints]]:
-    """The whole mesh after the parts, and where each part's slots stand in it: its old ones where they were, its new ones at the end."""
-    end, where = len(of.corners), []
-    for slots, part in zip(parts, done):
-        more = len(part.fours) - len(slots)
-        where.append(np.concatenate([slots, np.arange(end, end + more)]))
-        end += more
-    more = end - len(of.corners)
-    corners, region = np.pad(of.corners, ((0, more), (0, 0))), np.pad(of.region, (0, more))
-    sign, kind = np.pad(of.sign, (0, more)), np.pad(of.kind, (0, more))
-    beside = np.full((end, 4), -1, np.int64)
-    for places, part in zip(where, done):
-        now = part.sign != 0  # what is not touched has the sign 0 there, and stays as it is here
-        corners[places[now]], sign[places[now]], region[places] = part.fours[now], part.sign[now], part.region
-        beside[places[now]] = np.append(places, -1)[part.beside[now]]
-        gone = places[part.fours[:, 0] < 0]
-        kind[gone], corners[gone] = EMPTY, -1
-    return rejoined(of, corners, sign, region, kind, beside), where
+def _over_cuts(engine: Engine, of: Neighbours, cut: NDArray[np.bool_]) -> None:
+    """Joins the tetrahedra on the two sides of a cut."""
+    state = engine.state()
+    near = np.flatnonzero(cut[state.corners].sum(axis=1) >= 3)  # the others have no face there
+    near = near[state.corners[near, 0] >= 0]
+    kind = np.where(state.sign[near] != 0, SOUND, FLAT).astype(np.int8)  # what is not touched keeps its faces
+    _, found = joined(state.corners[near].astype(np.int64), state.region[near].astype(np.int64), kind, of.shut, len(of.points))
+    before = state.beside[near]
+    engine.rejoin(near, np.where((before < 0) & (found >= 0), near[found], before))
+
+
+def _take_over(run: Run, slots: Ints, part: Done) -> None:
+    """Puts a part into the whole: its old slots where they were, its new ones at the end."""
+    end = len(run.engine.state().sign)
+    places = np.concatenate([slots, np.arange(end, end + len(part.state.sign) - len(slots))])
+    run.engine.adopt(places, part.state)
+    run.fresh.update(places[part.fresh].tolist())
+    run.counts.add(part.counts)
+    run.elsewhere += part.seconds
+    run.failed.update({int(places[slot]): (0, points) for slot, points in part.settled.items()})
+    run.interrupted = run.interrupted or part.interrupted
 
 
 def run(
-    mesh: Mesh, of: Neighbours, options: Options, below: float, sizes: Sequence[int], passes: int | None, jobs: int, note: Callable[[Exchange], None],
+    of: Neighbours, options: Options, below: float, sizes: Sequence[int], passes: int | None, jobs: int, note: Note | None, begin: Callable[[], None],
     progress: Progress | None, stop: Callable[[], bool],
 ) -> Run:
-    """Betters the parts at the same time, then what the cuts hindered; the last run, with the counts of all.
+    """Betters the parts at the same time, then what the cuts hindered; the run of this process, with the counts of all. begin() is called before anything is noted.
 
     >>> from .improve import example, improve
     >>> improve(example(), below=0.9, jobs=2).report['exchanges']
     1
     """
     count = min(jobs, max(1, len(of.corners) // 8))
-    parts = bisect(of.points[of.corners].mean(axis=1), np.arange(len(of.corners)), count)
-    shown = multiprocessing.get_context('fork').RawArray('d', 3 * count)
-    done = _all_parts(_Shared(of, options, below, sizes, passes, stop, parts, shown), progress)
-    whole, where = _together(of, parts, done)
-    for part in done:
-        for exchange in part.exchanges:
-            note(exchange)
-    often = np.zeros(len(of.points), np.int64)
-    for part in done:
-        often[np.unique(part.fours[part.fours[:, 0] >= 0])] += 1
-    last = Run(whole, options, below, sizes, note, stop)
-    last.passes = [{**row, 'part': number} for number, part in enumerate(done, 1) for row in part.passes]
-    for places, part in zip(where, done):
-        last.fresh.update(places[part.fresh].tolist())
-        last.counts.add(part.counts)
-        last.elsewhere += part.seconds
-        last.failed.update({int(places[slot]): (0, points) for slot, points in part.settled.items() if not (often[points] > 1).any()})
-    last.interrupted = any(part.interrupted for part in done)
-    if not last.interrupted:
-        last.run(passes, progress)
-    return last
+    parts = bisect(of, np.arange(len(of.corners)), count)
+    cut = on_cuts(of, parts)
+    shared = _Shared(of, options, below, sizes, passes, stop, parts, cut.tobytes(), note is not None, multiprocessing.get_context('fork').RawArray('d', 3 * count))
+
+    def show(done: int, left: int, worst: float) -> None:
+        shared.shown[:3] = [done, left, worst]
+        _shown(shared, progress)
+
+    with _Others(shared) as others:
+        begin()
+        whole = Run(alone(of, parts[0]), options, below, sizes, note, stop)
+        whole.later = shared.cut
+        whole.run(passes, show)
+        done = others.gathered(progress)
+        whole.passes = [{**row, 'part': number} for number, rows in enumerate([whole.passes, *(part.passes for part in done)], 1) for row in rows]
+        whole.failed = {slot: tried for slot, tried in whole.failed.items() if tried[0] != NEVER}
+        for slots, part in zip(parts[1:], done):
+            _take_over(whole, slots, part)
+            if note is not None:
+                for line in part.lines.splitlines(keepends=True):
+                    note(line)
+        _over_cuts(whole.engine, of, cut)
+        whole.later = b''
+        if not whole.interrupted:
+            whole.run(passes, progress)
+    return whole

@@ -9,23 +9,26 @@ from __future__ import annotations
 import dataclasses
 import gzip
 import hashlib
+import io
 import json
 import os
 import zlib
 from types import TracebackType
-from typing import IO, Any, Callable, Iterator, Sequence
+from typing import IO, Any, Callable, Iterator, Sequence, cast
 
 import numpy as np
 
 from . import fast
 from .cavity import Options
 from .faults import Fault
+from .helper import address, usable
 from .kernel import FURTHEST, MOST_POINTS
-from .measures import MEASURES, Ints, MeasureName
+from .measures import MEASURES, Floats, Ints, MeasureName
 from .mesh import Mesh
 from .neighbours import neighbours
 
 FORM = 1
+BLOCK = 65_536  # bytes of a record that are read at once
 
 
 def in_order(rows: Ints) -> Ints:
@@ -46,6 +49,22 @@ def in_order(rows: Ints) -> Ints:
     return ordered
 
 
+def rows_of(tets: Ints, regions: Ints) -> Ints:
+    """Tetrahedra as a set: ascending corners and region, in an order that does not depend on the one they come in.
+
+    >>> rows_of(np.array([[3, 0, 1, 2]]), np.array([7])).tolist()
+    [[0, 1, 2, 3, 7]]
+    """
+    loaded, count = usable(), len(tets)
+    if loaded is None:
+        return in_order(np.column_stack([np.sort(tets, axis=1), regions]))
+    corners, region = np.ascontiguousarray(tets, np.int64), np.ascontiguousarray(regions, np.int64)
+    bits = max(count.bit_length() - 4, 1)
+    ends, entries, rows = np.empty(1 << bits, np.int64), np.empty((count, 2), np.int64), np.empty((count, 5), np.int64)
+    loaded.helper_rows(address(corners), address(region), count, bits, address(ends), address(entries), address(rows))
+    return rows
+
+
 def digest(mesh: Mesh) -> str:
     """A digest of a mesh's points, and of its tetrahedra with their regions as a set.
 
@@ -53,12 +72,21 @@ def digest(mesh: Mesh) -> str:
     >>> digest(one) == digest(dataclasses.replace(one, tets=np.array([[1, 0, 2, 3]])))
     True
     """
-    rows = in_order(np.column_stack([np.sort(mesh.tets, axis=1), mesh.regions]))
-    return hashlib.sha256(np.ascontiguousarray(mesh.points).tobytes() + rows.tobytes()).hexdigest()
+    return _digest(mesh.points, rows_of(mesh.tets, mesh.regions))
+
+
+def _digest(points: Floats, rows: Ints) -> str:
+    found = hashlib.sha256(np.ascontiguousarray(points).data)
+    found.update(rows.data)
+    return found.hexdigest()
+
+
+def _json(what: dict[str, Any]) -> bytes:
+    return json.dumps(what, separators=(',', ':')).encode() + b'\n'
 
 
 class Writer:
-    """Writes a record line by line; where no file is named it writes nothing.
+    """Writes a record line by line, `begin` first; where no file is named it writes nothing, and there is no `note` to hand lines to.
 
     >>> with Writer(None, Mesh(np.zeros((4, 3)), np.array([[0, 1, 2, 3]]), np.array([1])), Options(), 0.3, (5,)) as writer:
     ...     writer.count
@@ -67,36 +95,39 @@ class Writer:
 
     def __init__(self, path: str | os.PathLike[str] | None, mesh: Mesh, options: Options, below: float, sizes: Sequence[int]) -> None:
         self.path, self.count = None if path is None else os.fspath(path), 0
-        self.file: IO[str] | None = None
+        self.file: IO[bytes] | None = None
+        self.note: Callable[[bytes], None] | None = None if path is None else self.write
+        self.mesh = mesh
+        measure = options.measure if isinstance(options.measure, str) else None
+        self.head = {'measure': measure, 'table': 'rank' if options.ranked else 'millionths', 'limit': options.limit, 'below': below, 'sizes': list(sizes)}
         if self.path is None:
             return
         try:
-            self.file = gzip.open(self.path, 'wt') if self.path.endswith('.gz') else open(self.path, 'w')
+            self.file = io.BufferedWriter(cast(io.RawIOBase, gzip.open(self.path, 'wb'))) if self.path.endswith('.gz') else open(self.path, 'wb')
         except OSError as fault:
             raise Fault(f'{self.path}: the record can\'t be written: {fault.strerror}') from fault
-        measure = options.measure if isinstance(options.measure, str) else None
-        self._line({
-            'cottontuff record': FORM, 'input': digest(mesh), 'measure': measure, 'table': 'rank' if options.ranked else 'millionths', 'limit': options.limit,
-            'below': below, 'sizes': list(sizes),
-        })
 
-    def _line(self, what: dict[str, Any]) -> None:
+    def begin(self) -> None:
+        """Writes the first line."""
+        if self.file is not None:
+            self._put(_json({'cottontuff record': FORM, 'input': digest(self.mesh), **self.head}))
+
+    def _put(self, line: bytes) -> None:
         if self.file is not None:
             try:
-                self.file.write(json.dumps(what, separators=(',', ':')) + '\n')
+                self.file.write(line)
             except OSError as fault:
                 raise Fault(f'{self.path}: the record was not written to its end: {fault.strerror}') from fault
 
-    def write(self, exchange: Any) -> None:
-        """Writes a replacement, an `improve.Exchange`."""
+    def write(self, line: bytes) -> None:
+        """Writes the line of a replacement, which comes without its number."""
         self.count += 1
-        if self.file is not None:
-            self._line({'n': self.count, 'points': exchange.points, 'out': exchange.out, 'fill': exchange.fill, 'old': exchange.old, 'worst': exchange.worst, 'a': int(exchange.a), 'b': int(exchange.b)})
+        self._put(b'{"n":%d,' % self.count + line)
 
     def close(self, mesh: Mesh) -> None:
         """Writes the last line, and closes the file."""
         if self.file is not None:
-            self._line({'end': self.count, 'output': digest(mesh)})
+            self._put(_json({'end': self.count, 'output': digest(mesh)}))
             file, self.file = self.file, None
             try:
                 file.close()
@@ -114,6 +145,51 @@ class Writer:
                 pass  # what went wrong before is what is said
 
 
+def _blocks(name: str) -> Iterator[bytes]:
+    """The bytes of a record, some whole lines at a time."""
+    try:
+        with gzip.open(name) if name.endswith('.gz') else open(name, 'rb') as file:
+            while block := b''.join(file.readlines(BLOCK)):
+                yield block.replace(b'\r\n', b'\n').replace(b'\r', b'\n') if b'\r' in block else block
+    except OSError as fault:
+        raise Fault(f'{name}: the record can\'t be read: {fault.strerror or fault}') from fault
+    except (ValueError, EOFError, zlib.error) as fault:
+        raise Fault(f'{name}: no record, or not whole: {fault}') from fault
+
+
+class Lines:
+    """The lines of a record with their numbers, from 1; or, for the helper, the bytes from `at` on in `block`, of which it takes what it can."""
+
+    def __init__(self, path: str | os.PathLike[str]) -> None:
+        self.name = os.fspath(path)
+        self.blocks, self.block, self.at, self.number = _blocks(self.name), b'', 0, 0
+
+    def __iter__(self) -> Lines:
+        return self
+
+    def is_left(self) -> bool:
+        """Whether there is a line that was not taken."""
+        while self.at == len(self.block):
+            more = next(self.blocks, None)
+            if more is None:
+                return False
+            self.block, self.at = more, 0
+        return True
+
+    def __next__(self) -> tuple[int, dict[str, Any]]:
+        if not self.is_left():
+            raise StopIteration
+        end = self.block.find(b'\n', self.at) + 1 or len(self.block)
+        line, self.at, self.number = self.block[self.at: end], end, self.number + 1
+        try:
+            what = json.loads(line.decode())
+        except (ValueError, RecursionError) as fault:
+            raise Fault(f'{self.name}: no record, or not whole: {fault}') from fault
+        if not isinstance(what, dict):
+            raise Fault(f'{self.name}: line {self.number} is no line of a record')
+        return self.number, what
+
+
 def lines(path: str | os.PathLike[str]) -> Iterator[tuple[int, dict[str, Any]]]:
     """The lines of a record with their numbers, from 1.
 
@@ -123,18 +199,7 @@ def lines(path: str | os.PathLike[str]) -> Iterator[tuple[int, dict[str, Any]]]:
     ...     list(lines(folder + '/record'))
     [(1, {'end': 0})]
     """
-    name = os.fspath(path)
-    try:
-        with gzip.open(name, 'rt') if name.endswith('.gz') else open(name) as file:
-            for number, line in enumerate(file, 1):
-                what = json.loads(line)
-                if not isinstance(what, dict):
-                    raise Fault(f'{name}: line {number} is no line of a record')
-                yield number, what
-    except OSError as fault:
-        raise Fault(f'{name}: the record can\'t be read: {fault.strerror or fault}') from fault
-    except (ValueError, EOFError, zlib.error, RecursionError) as fault:
-        raise Fault(f'{name}: no record, or not whole: {fault}') from fault
+    return Lines(path)
 
 
 @dataclasses.dataclass
@@ -174,6 +239,7 @@ class Replay:
         self.engine = fast.engine(self.of, options)
         self.search = search
         self.points = len(mesh.points)
+        self.names = np.unique(mesh.regions)
 
     def _cavity(self, what: dict[str, Any]) -> tuple[list[int], list[int]]:
         """The slots and points of a line's cavity; ValueError says what is not there."""
@@ -234,12 +300,18 @@ class Replay:
         if found.number or found.worst != what.get('worst') or self.engine.answer[: 4 * found.count].tolist() != fill:
             raise ValueError('the search answers another filling')
 
-    def ends_in(self, mesh: Mesh) -> bool:
-        """Whether what is reached is this mesh, set for set, with its regions."""
+    def many(self, steps: Lines, said: Verified) -> int:
+        """Replays lines as long as the helper finds that they hold; how many. What it leaves is for `step`."""
+        count, size, carried = self.engine.replay(steps.block, steps.at, said.replacements + 1, self.search) if steps.is_left() else (0, 0, 0)
+        steps.at, steps.number = steps.at + size, steps.number + count
+        said.replacements, said.carries_over = said.replacements + count, said.carries_over + carried
+        return count
+
+    def ends_in(self, rows: Ints) -> bool:
+        """Whether what is reached is these tetrahedra, set for set, with their regions."""
         may, still = np.flatnonzero(self.engine.touchable()), self.of.kind != 0
-        reached = np.column_stack([np.concatenate([self.engine.fours()[may], self.of.corners[still]]), np.concatenate([self.engine.regions()[may], self.of.region[still]])])
-        wanted = np.column_stack([np.sort(mesh.tets, axis=1), np.unique(mesh.regions, return_inverse=True)[1]])
-        return reached.shape == wanted.shape and bool(np.array_equal(in_order(reached), in_order(wanted)))
+        regions = self.names[np.concatenate([self.engine.regions()[may], self.of.region[still]])]
+        return bool(np.array_equal(rows_of(np.concatenate([self.engine.fours()[may], self.of.corners[still]]), regions), rows))
 
 
 def _options(path: str, head: dict[str, Any], measure: MeasureName | None) -> Options:
@@ -262,34 +334,46 @@ def _same_besides(before: Mesh, after: Mesh) -> list[str]:
     if before.points.shape != after.points.shape or before.points.tobytes() != after.points.tobytes():
         wrong.append('the points are not the same, bit for bit')
     for name, a, b in (('triangles', before.faces, after.faces), ('lines', before.lines, after.lines)):
-        if not np.array_equal(in_order(np.sort(a, axis=1)), in_order(np.sort(b, axis=1))):
+        if not (np.array_equal(a, b) or np.array_equal(in_order(np.sort(a, axis=1)), in_order(np.sort(b, axis=1)))):
             wrong.append(f'the {name} are not the same')
     if not np.array_equal(np.unique(before.regions), np.unique(after.regions)):
         wrong.append('the regions are not the same')
     return wrong
 
 
-def _replayed(replay: Replay, steps: Iterator[tuple[int, dict[str, Any]]], said: Verified, output: str, progress: Callable[[int], None] | None) -> bool:
+def _replayed(replay: Replay, steps: Lines, said: Verified, output: str, progress: Callable[[int], None] | None) -> bool:
     """Replays the lines behind the first, up to one that does not hold; whether there was a last line."""
-    ended = False
-    for number, what in steps:
-        if ended or 'end' in what:
-            if ended or not is_number(what['end'], said.replacements) or what.get('output') != output:
-                said.wrong.append(f'line {number}: the record does not end as its last line says')
+    while steps.is_left():
+        before = said.replacements
+        if not replay.many(steps, said):
+            number, what = next(steps)
+            if not _one(replay, number, what, said, output):
                 return True
-            ended = True
-            continue
-        try:
-            if not is_number(what.get('n'), said.replacements + 1):
-                raise ValueError(f"it has the number {what.get('n')}, and {said.replacements + 1} is due")
-            said.carries_over += replay.step(what)
-        except ValueError as fault:
-            said.wrong.append(f'line {number}: {fault}')
-            return True
-        said.replacements += 1
+            if 'end' in what:
+                if steps.is_left():
+                    said.wrong.append(f'line {number + 1}: the record does not end as its last line says')
+                return True
         if progress is not None:
-            progress(said.replacements)
-    return ended
+            for count in range(before, said.replacements):
+                progress(count + 1)
+    return False
+
+
+def _one(replay: Replay, number: int, what: dict[str, Any], said: Verified, output: str) -> bool:
+    """Replays one line, or looks at the last; whether it holds."""
+    try:
+        if 'end' in what:
+            if not is_number(what['end'], said.replacements) or what.get('output') != output:
+                raise ValueError('the record does not end as its last line says')
+            return True
+        if not is_number(what.get('n'), said.replacements + 1):
+            raise ValueError(f"it has the number {what.get('n')}, and {said.replacements + 1} is due")
+        said.carries_over += replay.step(what)
+    except ValueError as fault:
+        said.wrong.append(f'line {number}: {fault}')
+        return False
+    said.replacements += 1
+    return True
 
 
 def verify(
@@ -305,22 +389,22 @@ def verify(
     ...     verify(example(), better.mesh, folder + '/record', search=True)
     Verified(replacements=1, carries_over=1, measure='shape', wrong=[])
     """
-    name, said = os.fspath(path), Verified(wrong=_same_besides(before, after))
-    steps = lines(name)
+    said, steps = Verified(wrong=_same_besides(before, after)), Lines(path)
     nothing: dict[str, Any] = {}
     _, head = next(steps, (0, nothing))
-    options = _options(name, head, measure)
+    options = _options(steps.name, head, measure)
     replay = Replay(before, options, search)
     said.measure = options.measure if isinstance(options.measure, str) else 'a function'
     if head.get('input') != digest(before):
         said.wrong.append('the record starts from another mesh')
     if said.wrong:
         return said
-    ended = _replayed(replay, steps, said, digest(after), progress)
+    wanted = rows_of(after.tets, after.regions)
+    ended = _replayed(replay, steps, said, _digest(after.points, wanted), progress)
     if said.wrong:
         return said
     if not ended:
         said.wrong.append('the record has no last line')
-    elif not replay.ends_in(after):
+    elif not replay.ends_in(wanted):
         said.wrong.append('the replay does not end in the output')
     return said

@@ -21,13 +21,14 @@ FLAGS = ['-O2', '-Wall', '-Wextra', '-std=c11', '-ffp-contract=off', '-shared', 
 
 
 def compiled(source: pathlib.Path, to: pathlib.Path) -> pathlib.Path:
-    """The shared library of a C file, built unless it stands there and is newer than the source. Built beside it and renamed: a process that has the old one open keeps it."""
-    if to.exists() and to.stat().st_mtime >= source.stat().st_mtime:
+    """The shared library of a C file, or of all in a folder, built unless it stands there and is newer. Built beside it and renamed: a process that has the old one open keeps it."""
+    files = sorted(source.glob('*.[ch]')) if source.is_dir() else [source]
+    if to.exists() and to.stat().st_mtime >= max(file.stat().st_mtime for file in files):
         return to
     to.parent.mkdir(parents=True, exist_ok=True)
     part = to.with_name(f'{to.name}.{os.getpid()}')
     try:
-        subprocess.run([os.environ.get('CC', 'cc'), *FLAGS, str(source), '-o', str(part), '-lm'], check=True, capture_output=True, text=True)
+        subprocess.run([os.environ.get('CC', 'cc'), *FLAGS, *(str(file) for file in files if file.suffix == '.c'), '-o', str(part), '-lm'], check=True, capture_output=True, text=True)
     except OSError as fault:
         raise SystemExit(f'{source.name} can\'t be compiled: {fault}') from None
     except subprocess.CalledProcessError as fault:
@@ -57,7 +58,7 @@ def _prepare() -> None:
             raise SystemExit(f'{library} does not exist: `make` builds it.')
         os.environ['COTTONTUFF_LIBRARY'] = str(library)
     if not os.environ.get('COTTONTUFF_HELPER'):
-        os.environ['COTTONTUFF_HELPER'] = str(compiled(ROOT / 'python' / 'helper.c', BUILT / 'libcottontuff_helper.so'))
+        os.environ['COTTONTUFF_HELPER'] = str(compiled(ROOT / 'python' / 'helper', BUILT / 'libcottontuff_helper.so'))
 
 
 _prepare()

@@ -177,7 +177,7 @@ class Volumes(unittest.TestCase):
     """volume6 of exact and of fast."""
 
     def setUp(self) -> None:
-        if fast.helper() is None or fast.is_pure():
+        if fast.usable() is None:
             self.skipTest('the helper is not used')
 
     def test_against_fractions(self) -> None:

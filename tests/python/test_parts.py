@@ -31,7 +31,6 @@ from validate import validate
 
 FOLDER = tempfile.TemporaryDirectory()
 HERE = pathlib.Path(FOLDER.name)
-MAIN = os.getpid()
 REAL_WORK, REAL_RUN, REAL_ATTEMPT = parts._work, improving.Run.run, improving.Run.attempt
 
 
@@ -99,8 +98,8 @@ def killed() -> None:
 
 
 def only_parts(self: Any, *given: Any) -> None:
-    """Nothing in the main process: the stage after the parts is left out."""
-    if os.getpid() != MAIN:
+    """The stage after the parts, which leaves nothing for later, is left out."""
+    if self.later:
         REAL_RUN(self, *given)
 
 
@@ -140,7 +139,7 @@ class Parts(unittest.TestCase):
 
     def test_what_is_passed_over_would_fail_again(self):
         for name, jobs in (('small-regions', 2), ('embedded', 3)):
-            with mock.patch.object(improving.Run, 'is_settled', lambda self, slot: False):
+            with mock.patch.object(improving.Run, 'is_settled', lambda self, slot: slot in self.failed and self.failed[slot][0] == improving.NEVER):
                 done = run(name, jobs)
             self.assertEqual(done.record.read_bytes(), usual(name, jobs).record.read_bytes())
 
@@ -198,9 +197,12 @@ class Cuts(unittest.TestCase):
     def cut_faces(self, mesh: Mesh, jobs: int) -> set[tuple[int, ...]]:
         of = neighbours(mesh)
         part = np.zeros(len(mesh.tets), int)
-        for number, slots in enumerate(parts.bisect(of.points[of.corners].mean(axis=1), np.arange(len(of.corners)), jobs)):
+        for number, slots in enumerate(parts.bisect(of, np.arange(len(of.corners)), jobs)):
+            self.assertTrue((np.diff(slots) > 0).all())
             part[slots] = number
-        self.assertLessEqual(np.ptp(np.bincount(part)), 1)
+        first, *others = np.bincount(part).tolist()
+        self.assertLessEqual(max(others) - min(others), 1)
+        self.assertAlmostEqual(first, (1 - parts.FEWER) * others[0], delta=2)
         sides: dict[tuple[int, ...], set[int]] = {}
         for four, number in zip(of.corners.tolist(), part.tolist()):
             for face in itertools.combinations(four, 3):

@@ -8,6 +8,7 @@ import itertools
 import json
 import os
 import pathlib
+import random
 import tempfile
 import unittest
 from typing import Any, Callable, Optional
@@ -20,6 +21,7 @@ import numpy as np
 from cottontuff import cavity, kernel
 from cottontuff.cavity import Options
 from cottontuff.faults import Fault
+from cottontuff.helper import usable
 from cottontuff.improve import example, improve
 from cottontuff.measures import shape
 from cottontuff.mesh import Mesh, read
@@ -82,6 +84,29 @@ class Holds(Case):
             self.assertTrue(said)
             self.assertEqual((said.replacements, said.wrong), (len(self.lines) - 2, []))
             self.assertEqual(said.carries_over, sum(line['a'] and line['b'] for line in self.lines[1:-1]))
+
+    def test_every_line_by_the_helper(self):
+        """What holds is not replayed a second time in Python, with spaces or without."""
+        if usable() is None:
+            self.skipTest('there is no helper')
+        mesh = read(setting.mesh_file('small-tetgen'))  # a ball has coordinates of 1e-32, whose sums are too long for the helper
+        after = improve(mesh, record=HERE / 'helper.record').mesh
+        lines = [json.loads(line) for line in (HERE / 'helper.record').read_text().splitlines()]
+        for search in (False, True):
+            with mock.patch.object(Replay, 'step', side_effect=AssertionError('a line is left to the plain form')):
+                self.assertTrue(verify(mesh, after, HERE / 'helper.record', search=search))
+                self.assertTrue(self.verified(lines, mesh, after, search=search))
+
+    def test_other_line_ends(self):
+        for end in (b'\r\n', b'\r'):
+            (HERE / 'ends.record').write_bytes(self.path.read_bytes().replace(b'\n', end))
+            self.assertTrue(verify(self.before, self.after, HERE / 'ends.record'))
+        (HERE / 'ends.record').write_bytes(self.path.read_bytes().rstrip(b'\n'))
+        self.assertTrue(verify(self.before, self.after, HERE / 'ends.record'))
+
+    def test_fields_in_another_order(self):
+        """JSON has no order: such lines are for the plain form."""
+        self.assertTrue(self.verified([dict(reversed(line.items())) for line in self.lines]))
 
     def test_packed(self):
         improve(self.before, record=HERE / 'ball.gz')
@@ -398,6 +423,33 @@ class Garbage(Case):
             raw = bytearray(packed)
             raw[at] ^= 0x55
             self.refuse_bytes(bytes(raw), 'garbage.gz')
+
+    def said_of(self, raw: bytes, form: str) -> object:
+        (HERE / 'garbage.record').write_bytes(raw)
+        with mock.patch.dict(os.environ, {'COTTONTUFF_PURE': form}):
+            try:
+                return verify(self.short, self.shorter, HERE / 'garbage.record')
+            except Fault as fault:
+                return str(fault)
+
+    def test_as_the_plain_form_says(self):
+        """The helper reads lines by itself: whatever a byte is turned into, it must accept no more and no less than the plain form."""
+        chance = random.Random(17)
+        self.short = self.before
+        self.shorter = improve(self.before, below=0.005, record=HERE / 'short.record').mesh
+        raw = (HERE / 'short.record').read_bytes()
+        first, last = raw.index(b'\n') + 1, raw.rindex(b'{')
+        places = [at for at in range(first, last) if raw[at: at + 1].isdigit()]
+        edits = [(at, what) for at in chance.sample(places, 40) for what in (b'0%c', b'%c0', b'-%c', b'%c.0', b' %c', b'%c ', b'9')]
+        edits += [(chance.randrange(first, last), bytes([chance.choice(b' ,:[]{}"\n\r\t019abn-')])) for _ in range(60)]
+        held = 0
+        for at, what in edits:
+            altered = raw[:at] + (what % raw[at] if b'%' in what else what) + raw[at + 1:]
+            fast, plain = self.said_of(altered, '0'), self.said_of(altered, '1')
+            self.assertEqual(fast, plain, altered[max(first, at - 60): at + 60])
+            held += bool(isinstance(fast, Verified) and fast)
+        self.assertGreater(held, 20)
+        self.assertLess(held, len(edits) - 100)
 
     def test_deep_lists(self):
         for row in (0, 1):
