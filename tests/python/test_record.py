@@ -360,6 +360,25 @@ class Unlawful(unittest.TestCase):
     def test_a_border(self):
         self.assertIn('line 2: the cavity has tetrahedra of two regions', self.forged(dataclasses.replace(example(), regions=np.array([1, 2])), example()).wrong)
 
+    def test_two_regions_at_once(self):
+        """The example and its mirror image in another region, both bettered in one line: the border stays a face, but the new tetrahedra would all be of one region."""
+        points = example().points
+        normal = np.cross(points[2] - points[1], points[4] - points[1])
+        mirrored = [point - 2 * ((point - points[1]) @ normal) / (normal @ normal) * normal for point in points[[0, 3]]]
+        places = np.concatenate([points, mirrored, example().points[:4] + 99])
+        out, fill = [[0, 1, 2, 3], [0, 1, 2, 4], [1, 2, 4, 5], [1, 2, 5, 6]], [[0, 1, 3, 4], [0, 2, 3, 4], [1, 2, 3, 4], [1, 2, 4, 6], [1, 4, 5, 6], [2, 4, 5, 6]]
+        old, worst = (int(Options().values(places[np.array(fours)]).min()) for fours in (out, fill))
+        before = Mesh(places, np.array([*out, [7, 8, 9, 10]]), np.array([1, 1, 2, 2, 2]))
+        after = Mesh(places, np.array([*fill, [7, 8, 9, 10]]), np.array([1] * 6 + [2]))
+        for regions, words in ((before.regions, ['line 2: the cavity has tetrahedra of two regions']), (np.array([1, 1, 1, 1, 2]), [])):
+            mesh = dataclasses.replace(before, regions=regions)
+            lines = [{'cottontuff record': 1, 'input': digest(mesh), 'measure': 'shape', 'table': 'millionths', 'limit': 50_000},
+                     {'n': 1, 'points': list(range(7)), 'out': sum(out, []), 'fill': sum(fill, []), 'old': old, 'worst': worst, 'a': 1, 'b': 1}, {'end': 1, 'output': digest(after)}]
+            (HERE / 'forged.record').write_text(''.join(json.dumps(line) + '\n' for line in lines))
+            for form in ('0', '1'):
+                with mock.patch.dict(os.environ, {'COTTONTUFF_PURE': form}):
+                    self.assertEqual(verify(mesh, after, HERE / 'forged.record').wrong, words)
+
 
 class Garbage(Case):
     """Lines and files that are no record's."""
