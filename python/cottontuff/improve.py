@@ -26,7 +26,6 @@ from .report import summarize
 SIZES = (5, 6, 8, 11, 16)
 # A strict rise ends by itself. A measure that gives one tetrahedron two values need not: then it stops here, and says so.
 MOST_EXCHANGES = 20
-NEVER = float('inf')
 Progress = Callable[[int, int, float], None]
 Note = Callable[[bytes], None]  # takes the line of a record, behind its number
 
@@ -75,8 +74,9 @@ class Run:
         self.passes: list[dict[str, Any]] = []
         self.now = 0
         self.touched = [0] * len(of.points)
-        self.failed: dict[int, tuple[float, list[int]]] = {}  # when a slot was tried last, and the points of its cavity then
-        self.later = b''  # by point: 1 where what fails there is tried again in a run to come, and not in this one
+        self.failed: dict[int, tuple[int, list[int]]] = {}  # when a slot was tried last, and the points of its cavity then
+        self.cut = b''  # by point: 1 where it is on a cut; what fails there is for the run over the whole
+        self.hindered: set[int] = set()  # what failed there
         self.fresh: set[int] = set()
         self.gone: list[int] = []
         self.ended = False
@@ -84,14 +84,22 @@ class Run:
         self.elsewhere = 0.0  # processor time of other processes
         self.most = MOST_EXCHANGES * len(of.corners) + 1000
 
-    def is_settled(self, slot: int) -> bool:
-        """Whether it was tried before and no point of its last cavity was touched since: growth and answer would be the same. Or whether it is for a run to come.
+    def is_unchanged(self, slot: int) -> bool:
+        """Whether it was tried before and no point of its last cavity was touched since: growth and answer would be the same.
 
-        >>> Run(neighbours(example()), Options(), 0.3, SIZES, None, lambda: False).is_settled(0)
+        >>> Run(neighbours(example()), Options(), 0.3, SIZES, None, lambda: False).is_unchanged(0)
         False
         """
         before = self.failed.get(slot)
         return before is not None and max(self.touched[point] for point in before[1]) <= before[0]
+
+    def is_settled(self, slot: int) -> bool:
+        """Whether there is nothing to try: it would fail again, or is for the run over the whole.
+
+        >>> Run(neighbours(example()), Options(), 0.3, SIZES, None, lambda: False).is_settled(0)
+        False
+        """
+        return slot in self.hindered or self.is_unchanged(slot)
 
     def attempt(self, slot: int) -> list[int] | None:
         """Opens a tetrahedron and exchanges the first of its cavities that can be bettered; the slots of what came in, or None.
@@ -118,7 +126,9 @@ class Run:
             if self.ended or reached < size:
                 break
         points = engine.cavity_points()
-        self.failed[slot] = (NEVER if self.later and any(self.later[point] for point in points) else self.now, points)
+        self.failed[slot] = (self.now, points)
+        if self.cut and any(self.cut[point] for point in points):
+            self.hindered.add(slot)
         return None
 
     def _give_up(self, why: str) -> None:
@@ -173,6 +183,7 @@ class Run:
             self.touched[point] = self.now
         for slot in self.gone:
             self.failed.pop(slot, None)
+            self.hindered.discard(slot)
             self.fresh.discard(slot)
         self.fresh.update(fresh)
         self.counts.exchanges += 1
@@ -319,13 +330,14 @@ def improve(
     from . import parts, record as records
     options = Options(measure, table == 'rank', limit)
     start, clock = time.process_time(), time.perf_counter()
-    of = neighbours(mesh)
-    setup = time.process_time() - start
     with records.Writer(record, mesh, options, below, sizes) as writer:
+        begun = parts.Aside(writer.begin, jobs > 1)
+        of = neighbours(mesh)
+        setup = time.process_time() - start
+        begun.wait()
         if jobs > 1:
-            run = parts.run(of, options, below, sizes, passes, jobs, writer.note, writer.begin, progress, stop or _never)
+            run = parts.run(of, options, below, sizes, passes, jobs, writer.note, progress, stop or _never)
         else:
-            writer.begin()
             run = Run(of, options, below, sizes, writer.note, stop or _never)
             run.run(passes, progress)
         better = result_mesh(mesh, of, run)

@@ -9,6 +9,7 @@ from __future__ import annotations
 import dataclasses
 import gc
 import multiprocessing
+import threading
 import time
 from multiprocessing.connection import Connection, wait
 from typing import Any, Callable, Sequence
@@ -19,19 +20,45 @@ from numpy.typing import NDArray
 from .cavity import Options
 from .fast import Engine, State
 from .faults import Fault
-from .improve import NEVER, Counts, Note, Progress, Run
+from .improve import Counts, Note, Progress, Run
 from .measures import Ints
 from .neighbours import EMPTY, FLAT, SOUND, Neighbours, joined
 
 
-FEWER = 0.02  # by this much the first part is smaller: its process also sets up the whole, and begins the record
+class Aside(threading.Thread):
+    """Does something at once, or beside what is done before `wait`; what goes wrong is raised there.
+
+    >>> done: list[int] = []
+    >>> Aside(lambda: done.append(1), True).wait()
+    >>> done
+    [1]
+    """
+
+    def __init__(self, what: Callable[[], None], beside: bool) -> None:
+        super().__init__(daemon=True)
+        self.what = what
+        self.fault: BaseException | None = None
+        (self.start if beside else what)()
+
+    def run(self) -> None:
+        try:
+            self.what()
+        except BaseException as fault:
+            self.fault = fault
+
+    def wait(self) -> None:
+        """Waits for its end."""
+        if self.ident is not None:
+            self.join()
+        if self.fault is not None:
+            raise self.fault
 
 
-def bisect(of: Neighbours, slots: Ints, parts: int, fewer: float = FEWER) -> list[Ints]:
-    """Cuts ascending slots into parts of the same size, but for the first, again and again across the longest side of the box around their corners, by the centres.
+def bisect(of: Neighbours, slots: Ints, parts: int) -> list[Ints]:
+    """Cuts ascending slots into parts of the same size, again and again across the longest side of the box around their corners, by the centres.
 
     >>> from .cavity import two_beside
-    >>> [part.tolist() for part in bisect(two_beside(), np.arange(2), 2, 0)]
+    >>> [part.tolist() for part in bisect(two_beside(), np.arange(2), 2)]
     [[1], [0]]
     """
     if parts == 1:
@@ -40,11 +67,11 @@ def bisect(of: Neighbours, slots: Ints, parts: int, fewer: float = FEWER) -> lis
     used[corners] = True
     along = int(np.argmax(np.ptp(0.25 * of.points[used], axis=0)))
     centres = (0.25 * of.points[:, along])[corners].sum(axis=1)
-    cut = int(len(slots) * (parts // 2 - fewer) / (parts - fewer))
+    cut = len(slots) * (parts // 2) // parts
     border = np.partition(centres, cut)[cut]
     first = centres < border
     first[np.flatnonzero(centres == border)[: cut - int(first.sum())]] = True  # of those on the border the lowest
-    return bisect(of, slots[first], parts // 2, fewer) + bisect(of, slots[~first], parts - parts // 2, 0)
+    return bisect(of, slots[first], parts // 2) + bisect(of, slots[~first], parts - parts // 2)
 
 
 def on_cuts(of: Neighbours, parts: list[Ints]) -> NDArray[np.bool_]:
@@ -94,7 +121,7 @@ class Done:
 
     state: State
     fresh: Ints
-    settled: dict[int, list[int]]
+    settled: dict[int, list[int]]  # what would fail in the whole too: the points of its last cavity
     lines: bytes
     counts: Counts
     passes: list[dict[str, Any]]
@@ -130,9 +157,9 @@ def _work(number: int) -> Done:
         shared.shown[3 * number: 3 * number + 3] = [done, left, worst]
 
     run = Run(part_of(shared.of, shared.parts[number]), shared.options, shared.below, shared.sizes, lines.append if shared.noted else None, shared.stop)
-    run.later = shared.cut
+    run.cut = shared.cut
     run.run(shared.passes, show)
-    settled = {slot: points for slot, (when, points) in run.failed.items() if when != NEVER and run.is_settled(slot)}
+    settled = {slot: points for slot, (_, points) in run.failed.items() if slot not in run.hindered and run.is_unchanged(slot)}
     fresh = np.array(sorted(run.fresh), np.int64)
     return Done(run.engine.state(), fresh, settled, b''.join(lines), run.counts, run.passes, run.interrupted, time.process_time() - start)
 
@@ -223,10 +250,10 @@ def _take_over(run: Run, slots: Ints, part: Done) -> None:
 
 
 def run(
-    of: Neighbours, options: Options, below: float, sizes: Sequence[int], passes: int | None, jobs: int, note: Note | None, begin: Callable[[], None],
+    of: Neighbours, options: Options, below: float, sizes: Sequence[int], passes: int | None, jobs: int, note: Note | None,
     progress: Progress | None, stop: Callable[[], bool],
 ) -> Run:
-    """Betters the parts at the same time, then what the cuts hindered; the run of this process, with the counts of all. begin() is called before anything is noted.
+    """Betters the parts at the same time, then what the cuts hindered; the run of this process, with the counts of all.
 
     >>> from .improve import example, improve
     >>> improve(example(), below=0.9, jobs=2).report['exchanges']
@@ -242,20 +269,20 @@ def run(
         _shown(shared, progress)
 
     with _Others(shared) as others:
-        begin()
         whole = Run(alone(of, parts[0]), options, below, sizes, note, stop)
-        whole.later = shared.cut
+        whole.cut = shared.cut
         whole.run(passes, show)
         done = others.gathered(progress)
         whole.passes = [{**row, 'part': number} for number, rows in enumerate([whole.passes, *(part.passes for part in done)], 1) for row in rows]
-        whole.failed = {slot: tried for slot, tried in whole.failed.items() if tried[0] != NEVER}
+        for slot in whole.hindered:
+            del whole.failed[slot]
+        whole.cut, whole.hindered = b'', set()
         for slots, part in zip(parts[1:], done):
             _take_over(whole, slots, part)
             if note is not None:
                 for line in part.lines.splitlines(keepends=True):
                     note(line)
         _over_cuts(whole.engine, of, cut)
-        whole.later = b''
         if not whole.interrupted:
             whole.run(passes, progress)
     return whole

@@ -97,9 +97,7 @@ class Writer:
         self.path, self.count = None if path is None else os.fspath(path), 0
         self.file: IO[bytes] | None = None
         self.note: Callable[[bytes], None] | None = None if path is None else self.write
-        self.mesh = mesh
-        measure = options.measure if isinstance(options.measure, str) else None
-        self.head = {'measure': measure, 'table': 'rank' if options.ranked else 'millionths', 'limit': options.limit, 'below': below, 'sizes': list(sizes)}
+        self.mesh, self.options, self.below, self.sizes = mesh, options, below, list(sizes)
         if self.path is None:
             return
         try:
@@ -108,9 +106,13 @@ class Writer:
             raise Fault(f'{self.path}: the record can\'t be written: {fault.strerror}') from fault
 
     def begin(self) -> None:
-        """Writes the first line."""
+        """Writes the first line, with a digest of the mesh."""
         if self.file is not None:
-            self._put(_json({'cottontuff record': FORM, 'input': digest(self.mesh), **self.head}))
+            measure = self.options.measure if isinstance(self.options.measure, str) else None
+            table = 'rank' if self.options.ranked else 'millionths'
+            self._put(_json({
+                'cottontuff record': FORM, 'input': digest(self.mesh), 'measure': measure, 'table': table, 'limit': self.options.limit, 'below': self.below, 'sizes': self.sizes,
+            }))
 
     def _put(self, line: bytes) -> None:
         if self.file is not None:

@@ -99,7 +99,7 @@ def killed() -> None:
 
 def only_parts(self: Any, *given: Any) -> None:
     """The stage after the parts, which leaves nothing for later, is left out."""
-    if self.later:
+    if self.cut:
         REAL_RUN(self, *given)
 
 
@@ -139,9 +139,10 @@ class Parts(unittest.TestCase):
 
     def test_what_is_passed_over_would_fail_again(self):
         for name, jobs in (('small-regions', 2), ('embedded', 3)):
-            with mock.patch.object(improving.Run, 'is_settled', lambda self, slot: slot in self.failed and self.failed[slot][0] == improving.NEVER):
+            with mock.patch.object(improving.Run, 'is_unchanged', lambda self, slot: False):
                 done = run(name, jobs)
             self.assertEqual(done.record.read_bytes(), usual(name, jobs).record.read_bytes())
+            self.assertGreater(done.result.report['searches'], usual(name, jobs).result.report['searches'])
 
     def test_more_jobs_than_work(self):
         result = improve(example(), below=0.9, jobs=5)
@@ -200,9 +201,7 @@ class Cuts(unittest.TestCase):
         for number, slots in enumerate(parts.bisect(of, np.arange(len(of.corners)), jobs)):
             self.assertTrue((np.diff(slots) > 0).all())
             part[slots] = number
-        first, *others = np.bincount(part).tolist()
-        self.assertLessEqual(max(others) - min(others), 1)
-        self.assertAlmostEqual(first, (1 - parts.FEWER) * others[0], delta=2)
+        self.assertLessEqual(np.ptp(np.bincount(part)), 1)
         sides: dict[tuple[int, ...], set[int]] = {}
         for four, number in zip(of.corners.tolist(), part.tolist()):
             for face in itertools.combinations(four, 3):
