@@ -484,12 +484,12 @@ def volume6(points: Floats, tets: Ints) -> Fraction:
     Fraction(1, 8)
     """
     loaded = usable()
-    used, local = np.unique(tets, return_inverse=True)
-    if loaded is not None and len(used):
-        xyz = np.ascontiguousarray(points[used])
-        rows = np.ascontiguousarray(local.reshape(-1, 4), np.int64)
-        room, limbs = np.zeros(6 * len(used), np.uint64), np.zeros(6, np.uint64)
-        if loaded.helper_volume(_address(xyz), len(used), _address(rows), len(rows), _address(room), _address(limbs)) == 0:
+    if loaded is not None and len(tets):
+        used = np.zeros(len(points), np.bool_)
+        used[tets] = True
+        xyz, rows = np.ascontiguousarray(points[used], np.float64), np.ascontiguousarray((np.cumsum(used) - 1)[tets], np.int64)
+        room, limbs = np.zeros(6 * len(xyz), np.uint64), np.zeros(6, np.uint64)
+        if loaded.helper_volume(_address(xyz), len(xyz), _address(rows), len(rows), _address(room), _address(limbs)) == 0:
             total = sum(int(limb) << (64 * i) for i, limb in enumerate(limbs.tolist()))
             low = int(np.frexp(xyz[xyz != 0])[1].min()) - 53 if xyz.any() else 0
             return Fraction(total) * Fraction(2) ** (3 * low)
