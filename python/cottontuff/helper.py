@@ -16,7 +16,7 @@ _P, _INT, _LONG = ctypes.c_void_p, ctypes.c_int32, ctypes.c_int64
 _FUNCTIONS: dict[str, tuple[Any, list[Any]]] = {
     'version': (_INT, []), 'sizes': (_LONG, [_INT]), 'link': (None, [_P]), 'open': (None, [_P, _P, _INT]), 'reopen': (_INT, [_P, _P, _P, _INT, _P, _INT]), 'grow': (_INT, [_P, _P, _INT]),
     'prepare': (_INT, [_P, _P]), 'table': (None, [_P, _P]), 'recheck': (_INT, [_P, _P, _INT]), 'exchange': (_INT, [_P, _P, _P, _INT]), 'find': (None, [_P, _P, _LONG, _P]),
-    'filter': (None, [_P, _P, _LONG, _P, _P]), 'volume': (_INT, [_P, _LONG, _P, _LONG, _P, _P]), 'measure': (None, [_P]),
+    'filter': (None, [_P, _P, _LONG, _P, _P]), 'volume': (_INT, [_P, _LONG, _P, _LONG, _P, _P]), 'measure': (None, [_P]), 'corners': (None, [_P, _LONG, _P, _P]),
     'beside': (None, [_P, _LONG, _P, _P, _LONG, _INT, _P, _P, _P, _P, _P, _P]), 'rows': (None, [_P, _P, _LONG, _INT, _P, _P, _P]), 'line': (_LONG, [_P, _P, _INT, _INT, _INT, _INT, _INT, _P]),
     'replay': (None, [_P, _P, _P, _P, _P, _LONG, _LONG, _P]),
 }

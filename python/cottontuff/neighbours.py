@@ -73,6 +73,32 @@ def parity(tets: Ints) -> Flags:
     return signs
 
 
+def ascending_corners(tets: Ints) -> tuple[Ints, Flags]:
+    """The corners of each tetrahedron in ascending order, and the parity of the order in which they came; by the helper where there is one.
+
+    >>> [array.tolist() for array in ascending_corners(np.array([[2, 0, 1, 3]]))]
+    [[[0, 1, 2, 3]], [1]]
+    """
+    loaded = usable()
+    if loaded is None:
+        return np.sort(tets, axis=1), parity(tets)
+    given = np.ascontiguousarray(tets, np.int64)
+    corners, signs = np.empty_like(given), np.empty(len(given), np.int8)
+    loaded.helper_corners(address(given), len(given), address(corners), address(signs))
+    return corners, signs
+
+
+def region_numbers(regions: Ints) -> Ints:
+    """The regions numbered from 0, ascending.
+
+    >>> region_numbers(np.array([7, 5, 7])).tolist()
+    [1, 0, 1]
+    """
+    if len(regions) and (regions == regions[0]).all():
+        return np.zeros(len(regions), np.int64)
+    return np.unique(regions, return_inverse=True)[1].astype(np.int64)
+
+
 def _all_faces(corners: Ints) -> Ints:
     return np.concatenate([corners[:, list(face)] for face in OPPOSITE])
 
@@ -116,15 +142,15 @@ def neighbours(mesh: Mesh) -> Neighbours:
     >>> neighbours(two).beside.tolist()
     [[-1, -1, -1, 1], [-1, -1, -1, 0]]
     """
-    corners = np.sort(mesh.tets, axis=1)
+    corners, turned = ascending_corners(mesh.tets)
     sign = exact.signs(mesh.points, corners)
-    in_file = sign * parity(mesh.tets)
+    in_file = sign * turned
     handed = 1 if int((in_file > 0).sum()) >= int((in_file < 0).sum()) else -1
-    _, region = np.unique(mesh.regions, return_inverse=True)
+    region = region_numbers(mesh.regions)
     shut = np.sort(mesh.faces, axis=1).reshape(-1, 3)
-    kind, beside = joined(corners, region.astype(np.int64), np.where(sign == 0, FLAT, SOUND).astype(np.int8), shut, len(mesh.points), (sign, in_file == -handed))
+    kind, beside = joined(corners, region, np.where(sign == 0, FLAT, SOUND).astype(np.int8), shut, len(mesh.points), (sign, in_file == -handed))
     lines = np.unique(np.sort(mesh.lines, axis=1), axis=0).reshape(-1, 2).astype(np.int64)
-    return Neighbours(mesh.points, corners, sign, region.astype(np.int64), beside, kind, lines, shut, handed)
+    return Neighbours(mesh.points, corners, sign, region, beside, kind, lines, shut, handed)
 
 
 def joined(corners: Ints, region: Ints, kind: Flags, shut: Ints, points: int, looked: tuple[Flags, NDArray[np.bool_]] | None = None) -> tuple[Flags, Ints]:

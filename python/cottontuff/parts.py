@@ -7,6 +7,7 @@ The answer depends on how many parts there are, never on how fast they are.
 from __future__ import annotations
 
 import dataclasses
+import fcntl
 import gc
 import multiprocessing
 import threading
@@ -65,8 +66,9 @@ def bisect(of: Neighbours, slots: Ints, parts: int) -> list[Ints]:
         return [slots]
     corners, used = of.corners[slots], np.zeros(len(of.points), np.bool_)
     used[corners] = True
-    along = int(np.argmax(np.ptp(0.25 * of.points[used], axis=0)))
-    centres = (0.25 * of.points[:, along])[corners].sum(axis=1)
+    quarters = 0.25 * of.points
+    along = quarters[:, int(np.argmax(np.ptp(quarters[used], axis=0)))].copy()
+    centres = along[corners[:, 0]] + along[corners[:, 1]] + along[corners[:, 2]] + along[corners[:, 3]]
     cut = len(slots) * (parts // 2) // parts
     border = np.partition(centres, cut)[cut]
     first = centres < border
@@ -180,6 +182,14 @@ def _shown(shared: _Shared, progress: Progress | None) -> None:
         progress(int(shown[:, 0].max()), int(shown[:, 1].sum()), float(shown[shown[:, 0] > 0, 2].min()))
 
 
+def _widen(pipe: Connection) -> None:
+    """Lets a pipe hold a mebibyte, so that a part goes through it in few turns."""
+    try:
+        fcntl.fcntl(pipe.fileno(), fcntl.F_SETPIPE_SZ, 1 << 20)
+    except OSError:
+        pass  # the system allows less: then it stays as it is
+
+
 class _Others:
     """A process for each part but the first. However it ends, none of them is left behind."""
 
@@ -190,15 +200,19 @@ class _Others:
         self.waiting: dict[Connection, int] = {}
 
     def __enter__(self) -> _Others:
+        return self
+
+    def start(self) -> None:
+        """Starts them."""
         context = multiprocessing.get_context('fork')
         for number in range(1, len(self.shared.parts)):
             here, there = context.Pipe(duplex=False)
+            _widen(here)
             self.waiting[here] = number
             process = context.Process(target=_send, args=(number, there), daemon=True)
             process.start()
             there.close()  # so that the process's own end is the last: when it dies, this side hears of it
             self.started.append(process)
-        return self
 
     def gathered(self, progress: Progress | None) -> list[Done]:
         """What they send, in the order of the parts."""
@@ -229,8 +243,8 @@ class _Others:
 def _over_cuts(engine: Engine, of: Neighbours, cut: NDArray[np.bool_]) -> None:
     """Joins the tetrahedra on the two sides of a cut."""
     state = engine.state()
-    near = np.flatnonzero(cut[state.corners].sum(axis=1) >= 3)  # the others have no face there
-    near = near[state.corners[near, 0] >= 0]
+    on_cut = cut.astype(np.int8)
+    near = np.flatnonzero((sum(on_cut[state.corners[:, i]] for i in range(4)) >= 3) & (state.corners[:, 0] >= 0))  # the others have no face there
     kind = np.where(state.sign[near] != 0, SOUND, FLAT).astype(np.int8)  # what is not touched keeps its faces
     _, found = joined(state.corners[near].astype(np.int64), state.region[near].astype(np.int64), kind, of.shut, len(of.points))
     before = state.beside[near]
@@ -269,6 +283,7 @@ def run(
         _shown(shared, progress)
 
     with _Others(shared) as others:
+        others.start()
         whole = Run(alone(of, parts[0]), options, below, sizes, note, stop)
         whole.cut = shared.cut
         whole.run(passes, show)

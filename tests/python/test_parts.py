@@ -4,6 +4,7 @@ from __future__ import annotations
 import functools
 import itertools
 import json
+import multiprocessing
 import os
 import pathlib
 import random
@@ -233,6 +234,20 @@ class Ends(unittest.TestCase):
         except subprocess.TimeoutExpired:
             self.fail('it waits for a process that was killed')
         self.assertIn('Fault: ', done.stdout)
+
+    def test_a_process_that_can_not_be_started_is_said(self):
+        """None of those that were started before it is left behind."""
+        start, count = multiprocessing.context.ForkProcess.start, itertools.count()
+
+        def second(process: Any) -> None:
+            if next(count):
+                raise BlockingIOError(11, 'Resource temporarily unavailable')
+            start(process)
+
+        with mock.patch.object(multiprocessing.context.ForkProcess, 'start', second), self.assertRaises(BlockingIOError):
+            improve(mesh_of('small-ball'), jobs=3)
+        self.assertEqual(multiprocessing.active_children(), [])
+        self.assertEqual(next(count), 2)
 
     def test_a_measure_by_chance_ends(self):
         chance = np.random.default_rng(5)
