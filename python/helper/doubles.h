@@ -60,7 +60,7 @@ static inline int to_whole(const double *x, int64_t count, int bits, __int128 *o
     if (high - low + 53 > bits) return 0;
     for (int64_t i = 0; i < count; i++) {
         double f = frexp(x[i], &e);
-        out[i] = x[i] == 0 ? 0 : (__int128)(int64_t)ldexp(f, 53) << (e - low);
+        out[i] = x[i] == 0 ? 0 : (int64_t)ldexp(f, 53) * ((__int128)1 << (e - low));
     }
     return 1;
 }
