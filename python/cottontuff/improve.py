@@ -238,7 +238,7 @@ class Run:
     def _one(self, slot: int, value: float, queue: list[tuple[float, int]], now: dict[int, float]) -> float:
         """Tries one tetrahedron; what it leaves behind: its quality where nothing betters it."""
         if self.is_settled(slot):
-            self.counts.skipped += 1
+            self.counts.skipped += slot not in self.hindered  # what is tried later is not passed over
             return value
         came = self.attempt(slot)
         if came is None:
