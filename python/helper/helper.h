@@ -9,7 +9,7 @@
 
 enum { POINTS = 16, FOURS = 1820, TRIANGLES = 560, TETS = 512, NONE = -1 };
 enum { SHAPE = 0, GAMMA = 1, GIVEN = 2 };                   /* the measure: GIVEN is filled in by the caller */
-enum { SAME = 0, OTHER = 1, UNDECIDED = 2 };                /* of a filling: it fills the same space, or not, or the sums are too long for this file */
+enum { SAME = 0, OTHER = 1, UNDECIDED = 2 };                /* of a filling: it fills the same space, or not, or its sums are too long for 384 bits */
 enum { SOUND = 0, FLAT = 1, TURNED = 2, OVERLAPPING = 3, EMPTY = 4 }; /* of a tetrahedron, as in neighbours.py */
 enum { VERSION = 3 };
 
