@@ -57,6 +57,8 @@ def quickly_filtered(points: Floats, fours: Ints) -> tuple[NDArray[np.int8], NDA
     if loaded is None:
         return filtered(points, fours)
     places, rows = np.ascontiguousarray(points, np.float64), np.ascontiguousarray(fours, np.int64)
+    if rows.size and (rows.min() < 0 or rows.max() >= len(places)):  # the helper does not look
+        return filtered(points, fours)
     sign, certain = np.zeros(len(rows), np.int8), np.zeros(len(rows), np.bool_)
     loaded.helper_filter(address(places), address(rows), len(rows), address(sign), address(certain))
     return sign, certain

@@ -24,7 +24,7 @@ from .faults import Fault
 from .helper import address, usable
 from .kernel import FURTHEST, MOST_POINTS
 from .measures import MEASURES, Floats, Ints, MeasureName
-from .mesh import Mesh
+from .mesh import Mesh, checked
 from .neighbours import neighbours
 
 FORM = 1
@@ -304,7 +304,7 @@ class Replay:
 
     def many(self, steps: Lines, said: Verified) -> int:
         """Replays lines as long as the helper finds that they hold; how many. What it leaves is for `step`."""
-        count, size, carried = self.engine.replay(steps.block, steps.at, said.replacements + 1, self.search) if steps.is_left() else (0, 0, 0)
+        count, size, carried = self.engine.replay(steps.block, steps.at, said.replacements + 1, self.search)
         steps.at, steps.number = steps.at + size, steps.number + count
         said.replacements, said.carries_over = said.replacements + count, said.carries_over + carried
         return count
@@ -391,6 +391,7 @@ def verify(
     ...     verify(example(), better.mesh, folder + '/record', search=True)
     Verified(replacements=1, carries_over=1, measure='shape', wrong=[])
     """
+    before, after = checked(before), checked(after)
     said, steps = Verified(wrong=_same_besides(before, after)), Lines(path)
     nothing: dict[str, Any] = {}
     _, head = next(steps, (0, nothing))

@@ -166,6 +166,13 @@ class Signs(unittest.TestCase):
         self.assertEqual(exact.signs(np.zeros((4, 3)) * -1, EVERY).tolist(), [0])
         self.assertEqual(exact.signs(corner, np.zeros((0, 4), np.int64)).tolist(), [])
 
+    def test_absent_points(self) -> None:
+        """As numpy says it, with the helper too: nothing is looked up beyond the points."""
+        corner = np.array([[0.0, 0, 0], [1, 0, 0], [0, 1, 0], [0, 0, 1]])
+        for fours in ([[0, 1, 2, 4]], [[0, 1, 2, 3], [0, 1, 2, 10**9]], [[-5, 0, 1, 2]]):
+            with self.assertRaises(IndexError):
+                exact.signs(corner, np.array(fours))
+
 
 def both(points: Floats, tets: Ints) -> tuple[Fraction, bool]:
     """fast.volume6, and whether the helper gave it."""

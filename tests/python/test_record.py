@@ -318,6 +318,14 @@ class End(Case):
         self.refused(self.lines, 'starts from another mesh', before=dataclasses.replace(self.before, regions=self.before.regions + np.arange(len(self.before.tets))))
         self.refused(self.altered(0, input=None), 'starts from another mesh')
 
+    def test_a_mesh_that_is_none(self):
+        """Arrays that no file gives: said in words, not looked up beyond their end."""
+        for change in ({'tets': self.before.tets + len(self.before.points)}, {'tets': self.before.tets - 5}, {'regions': self.before.regions[:-1]}, {'points': np.full_like(self.before.points, np.nan)}):
+            wrong = dataclasses.replace(self.before, **change)
+            for before, after in ((wrong, self.after), (self.before, wrong)):
+                with self.assertRaises(ValueError):
+                    verify(before, after, self.path)
+
     def test_a_point_moved(self):
         for point, axis in ((0, 0), (len(self.before.points) - 1, 2)):
             points = self.before.points.copy()
