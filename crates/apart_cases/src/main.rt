@@ -1,5 +1,7 @@
 // Pairs of tetrahedra: what the geometry finds of each, a line a pair. The standard input has those that touch, that overlap, that have
 // parallel edges (zero cross products), that are flat, and those at the ends of the range or past them. Assumes nothing; any bytes may come.
+#![tactic(auto)]
+
 mod report;
 
 use libc::STDIN_FILENO;

@@ -6,14 +6,14 @@ ghost use Rattle.arguments.specs.Arguments.{with_file, planned};
 use crate::word::{Word, word_in};
 
 // What was asked for so far. `file` is the number of the argument that names the file, 0 for none; `ended` says that `--` came.
-#[derive(Drop)]
+#[derive(Clone, Copy)]
 pub struct Options {
     pub words: bool,
     pub ended: bool,
     pub file: usize,
 }
 
-#[derive(Drop)]
+#[derive(Clone, Copy)]
 pub enum Plan {
     Run(Options),
     Help,

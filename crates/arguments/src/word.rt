@@ -3,7 +3,7 @@
 ghost use Rattle.std.specs.Prelude.{◌≡◌};
 ghost use Rattle.arguments.specs.Arguments.{begins_with_minus, ReadsAs};
 
-#[derive(Drop)]
+#[derive(Clone, Copy)]
 pub enum Word {
     // The name of a file; `-` is one too, for standard input.
     Name,

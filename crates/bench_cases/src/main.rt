@@ -6,6 +6,8 @@
 //   V;OPEN;CAVITY;POINTS      it is as before the operation but for its cavity;  M;POINTS;TETS  it has this mesh
 // A VALUE is POINTS;TETS;QUALITIES;OPEN;CAVITY;POINTS OF IT;COUNT; lists are parted by commas, a cavity is given by numbers.
 // Any other line is counted as unread and as different. Assumes nothing; any bytes may come.
+#![tactic(auto)]
+
 mod operation;
 mod session;
 

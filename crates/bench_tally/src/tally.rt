@@ -30,7 +30,7 @@ const NOWHERE: usize = 64;
 const NAMED: u64 = 5;
 
 // What a line comes to: where it is counted, besides the lines; the last is AGREE or DIFFER where something is compared.
-#[derive(Drop)]
+#[derive(Clone, Copy)]
 pub struct Outcome {
     first: usize,
     second: usize,

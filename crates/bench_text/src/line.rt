@@ -9,7 +9,7 @@ use check::same;
 use parsing::field::find;
 use parsing::line::fields_in;
 
-#[derive(Drop)]
+#[derive(Clone, Copy)]
 pub enum Operation {
     Point { x: i32, y: i32, z: i32 },
     Corners { a: u8, b: u8, c: u8, d: u8 },

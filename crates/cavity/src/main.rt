@@ -1,5 +1,7 @@
 // The cavity program: a job's text from standard input or a file, its printout on standard output. Assumes nothing; any bytes and any arguments may come.
 // A job that was not read to its end has no printout; that, and a printout that was not written to its end, is said on standard error.
+#![tactic(auto)]
+
 use answer::printout::print_text;
 use arguments::help::{print_help, print_version};
 use arguments::plan::{Options, Plan, asked};

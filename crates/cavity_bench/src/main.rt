@@ -1,5 +1,7 @@
 // The bench as text: a mesh and operations on standard input, a line each; the lines that they print on standard output, written operation by operation.
 // Assumes nothing; any bytes may come. A text that was not read to its end prints nothing; that, and lines that were not written, is said on standard error.
+#![tactic(auto)]
+
 ghost use Rattle.std.specs.Prelude.{◌≡◌, length};
 ghost use Rattle.bench_text.specs.Session.{Fits};
 
@@ -40,7 +42,7 @@ fn write_lines(lines: &[u8]) -> bool {
 }
 
 // A session between two lines. It has ended after a line that is not of the form, or where writing failed.
-#[derive(Drop)]
+#[derive(Clone, Copy)]
 struct Session {
     bench: Bench,
     gathered: Gathered,

@@ -1,5 +1,7 @@
 // The cavity-measure program: a job's text on standard input, the same text with a measured Q line for every solid four that has none on standard output, or a refusal.
 // Assumes nothing; any bytes may come. A text that was not read to its end is not completed; that, and a text that was not written to its end, is said on standard error.
+#![tactic(auto)]
+
 ghost use Rattle.std.specs.Prelude.{◌≡◌, length};
 
 use completion::complete::complete_text;

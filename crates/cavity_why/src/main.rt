@@ -1,5 +1,7 @@
 // The cavity-why program: four numbers of points, and a job's text from standard input or a file; on standard output the line that says why the four is not in the answer. Assumes nothing; any bytes
 // and any arguments may come. A job that was not read to its end has no answer; that, and an answer that was not written to its end, is said on standard error.
+#![tactic(auto)]
+
 use arguments::help::print_version;
 use arguments::source::{complain, read_source};
 use explain_text::printout::print_why;

@@ -1,6 +1,8 @@
 // Compares the search, the judge and the checker with a plain enumerator and with the laws written anew on random jobs. How many: the number on the one line of standard input,
 // 3,600 where that is empty. Prints how many there were of each kind, and how many comparisons differ. An argument, or an input that is no number, is refused on standard error.
 // Assumes nothing; any bytes may come. The jobs at the limits are `compare_limits`' part, the limited search is `compare_trials`'.
+#![tactic(auto)]
+
 use comparison::asked::jobs_asked;
 use comparison::tally::print_tally;
 use enumerator::enumerate::ROOM;

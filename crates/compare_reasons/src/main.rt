@@ -1,6 +1,8 @@
 // Compares the explanations with the reasons written anew (`reason_rule`): on random jobs, those of `compare`, in every second one with more qualities; every four of a job, and fours
 // that it has not. How many jobs: the number on the one line of standard input, 3,600 where that is empty. Prints how many answers there were of each kind, and how many differ. An
 // argument, or an input that is no number, is refused on standard error. Assumes nothing; any bytes may come.
+#![tactic(auto)]
+
 mod asked;
 mod counts;
 mod explained;

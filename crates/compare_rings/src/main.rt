@@ -1,5 +1,7 @@
 // Compares edge removal with the same rule written anew (`ring_rule`) and with the list of all lawful fillings (`reason_rule`), on random rings. How many rings: the number on the one line of standard input,
 // 3,600 where that is empty. Prints how many there were of each kind, and how many differ. An argument, or an input that is no number, is refused on standard error. Assumes nothing; any bytes may come.
+#![tactic(auto)]
+
 mod compared;
 mod counts;
 

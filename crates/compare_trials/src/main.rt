@@ -1,6 +1,8 @@
 // Compares the limited search with the rule of trials written anew (`trial_rule`): on random jobs, those of `compare`, each under five limits, and into a buffer that is too
 // short. How many jobs: the number on the one line of standard input, 3,600 where that is empty. Prints how many answers there were of each kind, and how many differ. An argument,
 // or an input that is no number, is refused on standard error. Assumes nothing; any bytes may come.
+#![tactic(auto)]
+
 mod counts;
 mod under_limits;
 

@@ -1,5 +1,7 @@
 // The kernel for C and Rust. Assumes nothing. No function has a `requires`: each takes any lists and refuses what it can't use.
 // A slice is a pointer and a length; a refusal changes no byte of a lent buffer.
+#![tactic(auto)]
+
 pub mod measured;
 
 ghost use Rattle.std.specs.Prelude.{◌≡◌, []};

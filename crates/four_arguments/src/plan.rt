@@ -7,7 +7,7 @@ use crate::number::{Number, number_in};
 use arguments::word::{Word, word_in};
 
 // What was asked for so far. `count` is how many numbers came, 4 at most, of which d is the last, c the one before it, and so on; `file` is the number of the argument that names the file, 0 for none; `ended` says that `--` came.
-#[derive(Drop)]
+#[derive(Clone, Copy)]
 pub struct Options {
     pub words: bool,
     pub ended: bool,
@@ -19,7 +19,7 @@ pub struct Options {
     pub file: usize,
 }
 
-#[derive(Drop)]
+#[derive(Clone, Copy)]
 pub enum Plan {
     Run(Options),
     Help,

@@ -1,6 +1,8 @@
 // The geometry by the numbers of points, for the programs that try it and for bench/geometry: no part of the library, which is crates/cottontuff.
 // Assumes nothing. No function has a `requires`: each takes any coordinates and any numbers, and refuses. points has three coordinates a point;
 // a slice is a pointer and a length. 1 is yes, 0 is no, -1 is refused.
+#![tactic(auto)]
+
 pub mod checked;
 
 ghost use Rattle.std.specs.Prelude.{◌≡◌};
@@ -12,7 +14,7 @@ use geometry::tetrahedron::Four;
 use shape::measure::{measure, millionths_of, number_of};
 
 #[repr(C)]
-#[derive(Drop)]
+#[derive(Clone, Copy)]
 pub struct Measure {
     pub refused: u32,
     pub millionths: u32,

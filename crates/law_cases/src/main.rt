@@ -4,6 +4,8 @@
 //   L;LIST;RESULT                                     a list for the last job before it: W,q lawful with worst quality q, L,k lowest law broken,
 //                                                     R,k job refused
 // Any other line, and one with a list too long for the program, is counted as unread and as different. Assumes nothing; any bytes may come.
+#![tactic(auto)]
+
 mod answer;
 mod tally;
 

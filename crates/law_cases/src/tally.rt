@@ -34,7 +34,7 @@ const NOWHERE: usize = 64;
 const NAMED: u64 = 5;
 
 // What a line comes to: where it is counted, besides the lines, and whether the answer is what it says.
-#[derive(Drop)]
+#[derive(Clone, Copy)]
 struct Outcome {
     first: usize,
     second: usize,

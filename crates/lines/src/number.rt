@@ -7,7 +7,7 @@ use std::num::wrapping_sub_u8;
 // Where a byte is no digit, where there is no digit, or where the number is too large.
 pub const NONE: u64 = u64::MAX;
 
-#[derive(Drop)]
+#[derive(Clone, Copy)]
 pub struct Signed {
     pub value: i32,
     pub is_read: bool,

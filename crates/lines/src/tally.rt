@@ -20,7 +20,7 @@ pub fn print_count(n: u64, what: &[u8]) {
 const MOST: usize = 64;
 
 // Counts by their places.
-#[derive(Drop)]
+#[derive(Clone, Copy)]
 pub struct Counts {
     of: [u64; MOST],
 }

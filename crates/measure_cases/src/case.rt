@@ -12,7 +12,7 @@ pub const FLAT: u32 = 2;
 pub const SHAPE: u32 = 3;
 
 // A number that does not stand there is NONE, which no measurement has.
-#[derive(Drop)]
+#[derive(Clone, Copy)]
 pub struct Expected {
     pub kind: u32,
     // Of a refusal, its number.

@@ -1,5 +1,7 @@
 // Measures every case of the standard input and compares with what the case says. A case is a line, COORDINATES;RESULT, with the result
 // R,3 or R,16 (refused), FLAT,S or SHAPE,D,S,q,BITS,MILLIONTHS: q in hexadecimal, then its 64 bits. Assumes nothing; any bytes may come.
+#![tactic(auto)]
+
 mod case;
 mod compare;
 mod tally;

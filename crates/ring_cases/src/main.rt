@@ -5,6 +5,8 @@
 // where there is none, each has to be what it was.
 // Any other line, and one with a list or a buffer too long for the program, is counted as unread and as different. Prints the names of those that differ, the first ten of them, and how many
 // cases there were of each kind. Assumes nothing; any bytes may come.
+#![tactic(auto)]
+
 mod outcome;
 mod tally;
 

@@ -1,4 +1,6 @@
 // Computes all triangulations of convex rings of 3 to 7 points and prints crates/rings/src/table.rt, the source file that has them as constants. Assumes nothing.
+#![tactic(auto)]
+
 mod choose;
 mod overlap;
 mod table;

@@ -5,7 +5,7 @@ ghost use Rattle.streams.specs.Call.{interruption, outcome};
 // How often in a row a call is made that signals interrupt.
 pub(crate) const MOST_TRIES: u32 = 1000;
 
-#[derive(Drop)]
+#[derive(Clone, Copy)]
 pub(crate) enum Outcome {
     // So many, at least one.
     Bytes(usize),

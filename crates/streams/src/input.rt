@@ -5,7 +5,7 @@ ghost use Rattle.streams.specs.Input.{Reads, input};
 
 use crate::call::{MOST_TRIES, Outcome, is_interrupted, outcome_of};
 
-#[derive(Drop)]
+#[derive(Clone, Copy)]
 pub enum Input {
     // So many bytes, to the input's end or the buffer's.
     Whole(usize),

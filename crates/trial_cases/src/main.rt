@@ -5,6 +5,8 @@
 //   NAME;LIMIT;KIND,TRIALS,COUNT,WORST;LIST    KIND: F filled, S spent, R no lawful filling, Rk refused with k; the fours of LIST are parted by spaces
 // with 'changed behind' at its end where a byte of the buffer behind the list is not what it was. Any other line, and a job with a list too long for the program, is printed
 // as unread. Assumes nothing; any bytes may come.
+#![tactic(auto)]
+
 mod report;
 mod searched;
 

@@ -4,6 +4,8 @@
 // and a line of the standard output
 //   NAME;a,b,c,d;RESULT                        RESULT: W,reason,value or R,number
 // Any other line, a four of another form, and a job with a list too long for the program, is printed as unread. Assumes nothing; any bytes may come.
+#![tactic(auto)]
+
 mod explained;
 mod report;
 

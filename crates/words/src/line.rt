@@ -4,7 +4,7 @@ use parsing::field::find;
 use parsing::line::line_in;
 
 // A line by its number, from 1, and the place of its first byte; number 0 for none.
-#[derive(Drop)]
+#[derive(Clone, Copy)]
 pub(crate) struct Found {
     pub(crate) number: usize,
     pub(crate) start: usize,
