@@ -1,6 +1,6 @@
 //! Cottontuff, the cavity kernel, for Rust: the functions of include/cottontuff.h behind safe ones. The field names and numbers are those of documents 01 and 02.
 //!
-//! `rt staticlib cottontuff` writes target/staticlib/libcottontuff.a; then `rustc -L native=target/staticlib` links a crate that has this file as a module.
+//! `tools/build cottontuff_c` proves the library and writes target/staticlib/libcottontuff.a; then `rustc -L native=target/staticlib` links a crate that has this file as a module.
 //! Every function takes any lists and answers: a filling, a verdict, a `Reason`, or a `Number`; `search_limited` also that its limit is spent. Nothing here panics on
 //! an input, and a refusal changes no lent byte.
 //! The searches, `explain`, the printout and `Bench::replace` want a thread with 768 KB of stack; threads of std have 2 MB.
