@@ -87,7 +87,7 @@ def changed(out: pathlib.Path) -> Optional[pathlib.Path]:
 
 
 def stored(folder: pathlib.Path) -> Iterator[Stored]:
-    """The jobs of a folder. Texts that are refused with 1 are no jobs for lists."""
+    """The jobs of a folder, and those whose answer changed with the limit of a coordinate once more, refused with 3 as before. Texts that are refused with 1 are no jobs for lists."""
     for out in sorted(folder.glob('*.out')):
         if not out.with_suffix('.txt').exists():
             continue
@@ -98,7 +98,7 @@ def stored(folder: pathlib.Path) -> Iterator[Stored]:
         text = out.with_suffix('.txt').read_text()
         yield parse(name, text, before if now is None else now.read_text())
         if now is not None:
-            yield parse(name + ' beyond', beyond(text), before)
+            yield parse(name + ' beyond', beyond(text), 'R,3\n')
 
 
 def folders() -> list[pathlib.Path]:
