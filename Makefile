@@ -1,5 +1,6 @@
 # The library for C, its pkg-config file, the programs and the examples, under target/. Needs the Rattle kit (RT) and a C compiler. `make help` lists the targets.
 RT = rt
+export RT
 PREFIX = /usr/local
 CFLAGS = -O2 -Wall -Wextra
 VERSION = 1.7.0
@@ -10,8 +11,8 @@ package = cottontuff-$(VERSION)-x86_64-linux
 # rt's names have no hyphen; installed, cavity_measure is cavity-measure.
 programs = cavity cavity_why cavity_measure cavity_bench
 installed = $(subst _,-,$(programs))
-# rt proves its crate anew at each call, so it is called only where a source is newer.
-sources = crates.txt $(shell find crates -name '*.rt' -o -name '*.antt')
+# Not crates/NAME/out, where rt keeps what it made.
+sources = crates.txt $(shell find crates/*/src crates/*/specs crates/*/proofs -name '*.rt' -o -name '*.antt')
 
 all: $(library) $(shared) target/cottontuff.pc $(programs:%=target/bin/%) target/examples/bench-session target/examples/limited target/examples/explain target/examples/edge-ring
 
@@ -23,16 +24,15 @@ help:
 	@echo '                 python/install PREFIX installs that package, and what it needs of Debian'
 	@echo 'make uninstall   takes them out again'
 	@echo 'make dist        target/$(package).tar.gz with its checksum: installs without the kit'
-	@echo 'make clean       removes target/'
+	@echo 'make clean       removes target/, and what rt keeps in crates/NAME/out'
 
+# tools/build leaves a file as old as it is where it would be the same.
 $(library): $(sources)
-	@mkdir -p target
-	$(RT) staticlib cottontuff >target/staticlib.log 2>&1 || { tail -n 20 target/staticlib.log; exit 1; }
+	tools/build cottontuff_c
 	@touch $@
 
 $(programs:%=target/bin/%): target/bin/%: $(sources)
-	@mkdir -p target
-	$(RT) check $* >target/$*.log 2>&1 || { tail -n 20 target/$*.log; exit 1; }
+	tools/build $*
 	@touch $@
 
 $(shared): $(library)
@@ -93,7 +93,7 @@ dist: all
 	cd target && sha256sum $(package).tar.gz >$(package).tar.gz.sha256
 
 clean:
-	rm -rf target
+	rm -rf target crates/*/out
 
 FORCE:
 .PHONY: all help check test install uninstall dist clean FORCE
