@@ -18,7 +18,7 @@ all: $(library) $(shared) target/cottontuff.pc $(programs:%=target/bin/%) target
 
 help:
 	@echo 'make             the library, static and shared, target/cottontuff.pc, the programs, the examples in C'
-	@echo 'make check       the gate: proves all from nothing (.ci/run, some 30 minutes)'
+	@echo 'make check       the gate: proves all, and tries the edits that must fail (.ci/run, some 30 minutes from nothing)'
 	@echo 'make test        the tests outside the prover (tests/run)'
 	@echo 'make install     into PREFIX (default /usr/local; DESTDIR before it): libraries, header, pkg-config file, programs, manual pages, guide, Rust crate, sources of the Python package'
 	@echo '                 python/install PREFIX installs that package, and what it needs of Debian'
