@@ -209,7 +209,7 @@ def folder_lines(folder, lists, longest, left_out):
             now = changed(out)
             found = lines_of(path.stem, text, now.read_text() if now else before, lists.get(path.stem, []))
             if now:
-                found += lines_of(path.stem + "-beyond", beyond(text), before, [])
+                found += lines_of(path.stem + "-beyond", beyond(text), "R,3\n", [])
             if len(found[0]) > longest and path.stem not in lists:
                 raise LeftOut("a longer line than LONGEST")
             lines += found
