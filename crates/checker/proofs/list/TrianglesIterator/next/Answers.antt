@@ -1,0 +1,16 @@
+-- `checker::list::Triangles::next` meets its contract. Assumes nothing.
+use mathlib.Core.Path.{ap}
+use native.Mathlib.Omega.{arith}
+use lib.ListN.{length}
+use Rattle.checker.proofs.Listed.{triangles_none, triangles_first}
+use Rattle.checker.proofs.list.TrianglesIterator.next.Goals as goal
+
+pub returns-in_default-clause-steps : goal.returns-in_default-clause-steps
+returns-in_default-clause-steps c = let e = triangles_none c.args.self.now.0.now c.in_default.len_below in (e, e)
+
+pub returns-clause-steps : goal.returns-clause-steps
+returns-clause-steps c = triangles_first c.args.self.now.0.now c.in-len3-up.len_at_least
+
+pub returns-clause-goes : goal.returns-clause-goes
+returns-clause-goes c =
+    record { on = λ _. (tt, tt, omega (arith, ap length (triangles_first c.args.self.now.0.now c.in-len3-up.len_at_least))); keeps = tt; rests = λ _. tt }
