@@ -6,12 +6,12 @@ use Prim.Native.Nat.{ℕ, zero, suc, ◌<◌}
 use native.Mathlib.Omega.{arith}
 use lib.ListN.{length}
 use denote.Param.Members.{Mut}
-use Rattle.std.proofs.Common.{MatchOption, Option}
+use Rattle.std.proofs.Common.{MatchOption, Option, None, Some}
 use Rattle.std.specs.Bool.{MatchBool}
 use Rattle.std.specs.Fn.{Called}
 use Rattle.std.specs.Iterator.{YieldsThen}
 use Rattle.std.specs.List.{FoldsTo, AllWithin, HoldsAt}
-use Rattle.std.proofs.lemmas.Iterator.{YieldsList, cases_from_any, cases_from_all}
+use Rattle.std.proofs.lemmas.Iterator.{YieldsList, cases_from_any, cases_from_all, IsFirst-from_position}
 
 -- some element passes; each does
 unfoldable pub some : {A : Type 0} → (A → Bool) → List A → Bool
@@ -26,7 +26,7 @@ module _ {A : Type 0} (p : A → Bool) where
   later : {b : Bool} (x : A) (xs : List A) → AllWithin (λ y. p y ≡ b) (x ∷ xs) 0 (length (x ∷ xs)) → AllWithin (λ y. p y ≡ b) xs 0 (length xs)
   later x xs w = λ k d l h. w (suc k) d (omega arith) (omega arith)
 
-  some_none : (xs : List A) → AllWithin (λ y. p y ≡ false) xs 0 (length xs) → some p xs ≡ false
+  pub some_none : (xs : List A) → AllWithin (λ y. p y ≡ false) xs 0 (length xs) → some p xs ≡ false
   unfolding some
   some_none [] w = refl
   some_none (x ∷ xs) w = let e : p x ≡ false = w 0 x (omega arith) (omega arith) in rw e (some_none xs (later x xs w))
@@ -78,3 +78,15 @@ module _ {S A B F : Type 0} {steps : S → Option A → S → Type 0} {v : A →
       YieldsList steps v s all → ((x : A) (b : Bool) (q : F) → Called g f (x, tt) b q → (q ≡ f) × (b ≡ p (v x))) → r ≡ each p all
   all_is p u f r ran y k =
       each_by_cases p r all (cases_from_all u f r (λ x. p x ≡ true) (λ x. p x ≡ false) ran y (λ x q h. ((k x true q h).0, sym (k x true q h).1)) (λ x q h. sym (k x false q h).1))
+
+  -- the number of the first that passes; no element passes where there is none
+  pub position_is : (p : B → Bool) (u : S) (f : F) (r : Option ℕ) →
+      ((xs : List A) × (o : Option A) × (j : F) × YieldsThen steps s xs o u × FoldsTo (λ h x q. Called g h (x, tt) false q) f xs j × MatchOption o (r ≡ None) (λ x. (r ≡ Some (length xs)) × ((h : F) × Called g j (x, tt) true h))) →
+      YieldsList steps v s all → ((x : A) (b : Bool) (q : F) → Called g f (x, tt) b q → (q ≡ f) × (b ≡ p (v x))) →
+      MatchOption r (some p all ≡ false) (λ i. (i < length all) × HoldsAt (λ x. p x ≡ true) all i)
+  position_is p u f r ran y k =
+      go r (IsFirst-from_position u f r (λ x. p x ≡ true) (λ x. p x ≡ false) ran y (λ x q h. sym (k x true q h).1) (λ x q h. ((k x false q h).0, sym (k x false q h).1)))
+    where
+      go : (o : Option ℕ) → MatchOption o (AllWithin (λ x. p x ≡ false) all 0 (length all)) (λ i. (i < length all) × HoldsAt (λ x. p x ≡ true) all i × AllWithin (λ x. p x ≡ false) all 0 i) → MatchOption o (some p all ≡ false) (λ i. (i < length all) × HoldsAt (λ x. p x ≡ true) all i)
+      go None w = some_none p all w
+      go (Some i) w = (w.0, w.1)

@@ -1,5 +1,5 @@
 -- The triangles and the edges of a list of bytes, the first one and the others. Assumes nothing.
-use mathlib.Core.Path.{◌≡◌, refl, sym, subst, ◌∙◌}
+use mathlib.Core.Path.{◌≡◌, refl, sym, subst, ap, ◌∙◌}
 use mathlib.Core.Bool.{Bool, true, false, ◌&&◌, ◌||◌, not}
 use mathlib.Core.List.{List, [], ◌∷◌}
 use Prim.Native.Nat.{ℕ, zero, suc, ◌+◌, ◌-◌, ◌/◌, ◌≤◌, ◌<◌}
@@ -7,7 +7,7 @@ use native.Mathlib.Omega.{arith}
 use lib.Dec.{eqb}
 use lib.ListN.{length, get_or, take, drop}
 use lib.IntN.{ℤ, pos}
-use Rattle.std.proofs.Common.{int_eq}
+use Rattle.std.proofs.Common.{int_eq, add-zero}
 use Rattle.std.specs.Bool.{Decides}
 use Rattle.std.proofs.lemmas.Bool.Decides.{Decides-int_eq}
 use Rattle.geometry.specs.Space.{V3, v3, of, equal, points_in, same_place}
@@ -15,11 +15,11 @@ use Rattle.laws.proofs.Checker.Signed.{equal_same, same_equal}
 use Rattle.std.proofs.lemmas.List.{take_rest, length-drop}
 use Rattle.laws.specs.Laws.{Tri, tri, Edge}
 use Rattle.laws.specs.Check.{tris_in, edges_in, tri_bad, any_tri_bad, tri_taken, tris_alike, directed, unmatched, edge_bad, entry_bad, any_entry_bad, place_taken, two_alike}
-use Rattle.laws.specs.inner.Listed.{triangles_in, kept_in, same_three, edge_wrong, Within, AllWithin, Counts, tris_from, count_of, balanced}
+use Rattle.laws.specs.inner.Listed.{triangles_in, kept_in, same_three, edge_wrong, Within, AllWithin, Counts, tris_from, edges_from, tri_at, edge_at, count_of, balanced}
 use Rattle.laws.proofs.Basics.Lists.{Each, none, more}
 use Rattle.laws.proofs.Basics.Scan.{Step}
 use Rattle.laws.proofs.Checker.Counts.{Counting, edge, counting_end}
-use Rattle.laws.proofs.Checker.Rest.{tris_start, tris_more, tris_done}
+use Rattle.laws.proofs.Checker.Rest.{tris_start, tris_more, tris_done, edges_start, edges_more}
 use Rattle.checker.specs.declared.list.Triangle.{Triangle}
 use Rattle.checker.specs.declared.list.Point.{Point}
 use Rattle.checker.specs.Listed.{tri_of, tri_even, point_of}
@@ -159,3 +159,34 @@ unfolding some directed unmatched tri_even
 unmatched_is k [] w = refl
 unmatched_is {counts} {es} k (t ∷ ts) (more h w) =
     rw (unmatched_is k ts w, even_is k h.a h.b, even_is k h.b h.c, even_is k h.c h.a) (three (balanced es t.a t.b) (balanced es t.b t.c) (balanced es t.c t.a) (unmatched (directed ts) es))
+
+-- ---- the triangles and the edges by number
+pub triangles_count : (bs : List ℕ) → length (triangles_in bs) ≡ length bs / 3
+unfolding tris_in
+triangles_count bs = go (length bs / 3) bs
+  where
+    go : (n : ℕ) (cs : List ℕ) → length (tris_in n cs) ≡ n
+    go zero cs = refl
+    go (suc n) cs = ap suc (go n (drop 3 cs))
+
+pub edges_count : (bs : List ℕ) → length (kept_in bs) ≡ length bs / 2
+unfolding edges_in
+edges_count bs = go (length bs / 2) bs
+  where
+    go : (n : ℕ) (cs : List ℕ) → length (edges_in n cs) ≡ n
+    go zero cs = refl
+    go (suc n) cs = ap suc (go n (drop 2 cs))
+
+triangle_from : (bs : List ℕ) (k i : ℕ) (d : Tri) → i + k < length bs / 3 → get_or (tris_from bs i) k d ≡ tri_at bs (i + k)
+triangle_from bs zero i d h = rw (tris_more bs i (omega arith), add-zero i) refl
+triangle_from bs (suc k) i d h = let e : i + suc k ≡ i + 1 + k = omega arith in rw (tris_more bs i (omega arith), e) (triangle_from bs k (i + 1) d (omega arith))
+
+pub triangle_is : (bs : List ℕ) (i : ℕ) (d : Tri) → i < length bs / 3 → get_or (triangles_in bs) i d ≡ tri_at bs i
+triangle_is bs i d h = let e : 0 + i ≡ i = omega arith in rw (tris_start bs) (triangle_from bs i 0 d (omega arith) ∙ ap (tri_at bs) e)
+
+edge_from : (bs : List ℕ) (k i : ℕ) (d : Edge) → i + k < length bs / 2 → get_or (edges_from bs i) k d ≡ edge_at bs (i + k)
+edge_from bs zero i d h = rw (edges_more bs i (omega arith), add-zero i) refl
+edge_from bs (suc k) i d h = let e : i + suc k ≡ i + 1 + k = omega arith in rw (edges_more bs i (omega arith), e) (edge_from bs k (i + 1) d (omega arith))
+
+pub edge_is : (bs : List ℕ) (i : ℕ) (d : Edge) → i < length bs / 2 → get_or (kept_in bs) i d ≡ edge_at bs i
+edge_is bs i d h = let e : 0 + i ≡ i = omega arith in rw (edges_start bs) (edge_from bs i 0 d (omega arith) ∙ ap (edge_at bs) e)
