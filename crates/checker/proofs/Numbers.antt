@@ -1,5 +1,5 @@
 -- The numbers of the refusals. Assumes nothing.
-use Rattle.std.proofs.Common.{◌≡◌, ℕ, arith}
+use Rattle.std.proofs.Common.{◌≡◌, arith}
 use Rattle.checker.specs.Numbers.{number_of}
 use Rattle.checker.specs.declared.refusal.Refusal.{Refusal}
 use Rattle.checker.specs.declared.refusal.Refusal.TheVariants.{Points, Far, PointsAlike, Triangles, BadTriangle, TrianglesAlike, Unmatched, Kept, BadEdge, Table, BadEntry, Unmeasured, Inner, BadInner}

@@ -1,5 +1,5 @@
 -- The numbers of the refusals of a job. Assumes nothing: these are definitions.
-use Rattle.std.specs.Prelude.{ℕ, ⊤, Result, Ok, Err}
+use Rattle.std.specs.Prelude.{ℕ, Result, Ok, Err}
 use Rattle.checker.specs.declared.refusal.Refusal.{Refusal}
 use Rattle.checker.specs.declared.refusal.Refusal.TheVariants.{Points, Far, PointsAlike, Triangles, BadTriangle, TrianglesAlike, Unmatched, Kept, BadEdge, Table, BadEntry, Unmeasured, Inner, BadInner}
 

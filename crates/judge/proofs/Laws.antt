@@ -1,5 +1,5 @@
 -- The numbers of the laws. Assumes nothing.
-use Rattle.std.proofs.Common.{◌≡◌, ℕ, arith}
+use Rattle.std.proofs.Common.{◌≡◌, arith}
 use Rattle.judge.specs.Judge.{law_number}
 use Rattle.judge.specs.declared.law.Law.{Law}
 use Rattle.judge.specs.declared.law.Law.TheVariants.{Order, Quality, PointsOut, Faces, Apart, Corners, Edges, Inner}
