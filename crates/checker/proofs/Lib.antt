@@ -1,3 +1,4 @@
 pub mod Asking
+pub mod FourWalk
 pub mod Listed
 pub mod Numbers
