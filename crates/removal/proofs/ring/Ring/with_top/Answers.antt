@@ -9,7 +9,7 @@ use Rattle.laws.specs.Laws.{worst}
 use Rattle.laws.specs.Lists.{Lists, job_lists}
 use Rattle.removal.specs.declared.ring.Ring.{Ring}
 use Rattle.removal.specs.inner.Ringed.{job_of, rows_of}
-use Rattle.removal.specs.inner.Leading.{Above}
+use Rattle.removal.specs.inner.Leading.{Above, led_worst}
 use Rattle.removal.proofs.TopRow.{not_above, is_above, top_stays, top_rises}
 use Rattle.removal.proofs.RingRows.{row_seen}
 use Rattle.removal.proofs.ring.Ring.with_top.Goals as goal
@@ -26,16 +26,20 @@ pub row_worst-worst-requires : goal.row_worst-worst-requires
 row_worst-worst-requires c = let s : Start = (goal.at.row_worst-worst-requires c).Start in c.requires.0
 
 -- what was measured is the row's worst quality, as far as it is above the best so far
-measured : (c : After-row_worst-worst) → Above c.args.best.worst (worst (job_of c.args.self.now) (the_row c.args.self.now c.args.row)) c.row_worst-worst.result
+measured : (c : After-row_worst-worst) → Above c.led_worst-bound.result (worst (job_of c.args.self.now) (the_row c.args.self.now c.args.row)) c.row_worst-worst.result
 measured c =
     let r = c.args.self.now in
-    subst (λ (w : ℕ). Above c.args.best.worst w c.row_worst-worst.result) (row_seen (the_lists r) r.a r.b r.ring.now c.args.row) c.row_worst-worst.ensures
+    subst (λ (w : ℕ). Above c.led_worst-bound.result w c.row_worst-worst.result) (row_seen (the_lists r) r.a r.b r.ring.now c.args.row) c.row_worst-worst.ensures
 
-pub returns-then-best-worst : goal.returns-then-best-worst
-returns-then-best-worst c =
-    let s : Start = (goal.at.returns-then-best-worst c).Start in let l : c.args.best.worst < c.row_worst-worst.result = omega arith in
-    top_rises (job_of c.args.self.now) (rows_of c.args.self.now) c.args.row c.args.best c.requires.1 (is_above c.args.best.worst (worst (job_of c.args.self.now) (the_row c.args.self.now c.args.row)) c.row_worst-worst.result (measured (goal.at.returns-then-best-worst c).After-row_worst-worst) l) l
+pub returns-then-bound-worst : goal.returns-then-bound-worst
+returns-then-bound-worst c =
+    let b = c.led_worst-bound in
+    let l : led_worst c.args.best < c.row_worst-worst.result = omega (arith, b.ensures, c.if-bound-worst.true) in
+    top_rises (job_of c.args.self.now) (rows_of c.args.self.now) c.args.row c.args.best c.requires.1
+    (is_above b.result (worst (job_of c.args.self.now) (the_row c.args.self.now c.args.row)) c.row_worst-worst.result (measured (goal.at.returns-then-bound-worst c).After-row_worst-worst) c.if-bound-worst.true) l
 
 pub returns : goal.returns
 returns c =
-    let s : Start = (goal.at.returns c).Start in top_stays (job_of c.args.self.now) (rows_of c.args.self.now) c.args.row c.args.best c.requires.1 (not_above c.args.best.worst (worst (job_of c.args.self.now) (the_row c.args.self.now c.args.row)) c.row_worst-worst.result (measured (goal.at.returns c).After-row_worst-worst) (omega arith))
+    let b = c.led_worst-bound in
+    let n = not_above b.result (worst (job_of c.args.self.now) (the_row c.args.self.now c.args.row)) c.row_worst-worst.result (measured (goal.at.returns c).After-row_worst-worst) (omega arith) in
+    top_stays (job_of c.args.self.now) (rows_of c.args.self.now) c.args.row c.args.best c.requires.1 (omega (arith, n, b.ensures))
