@@ -19,8 +19,22 @@ pub struct Pool<'a> {
     pub codes: &'a [u16],
     pub qualities: &'a [u32],
     // The boundary triangles' codes in their order, and the boundary as flags by face code.
-    pub boundary: &'a [u16],
-    pub bound: &'a [u16],
+    pub boundary: &'a [u16; 4096],
+    pub bound: &'a [u16; 4096],
     // The chains of owners: the first by face code, the next by place among the codes. No answer rests on them.
     pub links: &'a [[u16; 7280]; 2],
+}
+
+// A job, a pool of its candidates, and what a search asks of both.
+#[derive(Clone, Copy)]
+pub struct Problem<'a> {
+    pub lists: Lists<'a>,
+    pub pool: Pool<'a>,
+    // By face code, the points on its two sides.
+    pub rows: &'a [u16; 4096],
+    // By candidate: its corners as a set, and what runs through its faces.
+    pub corners: &'a [u16],
+    pub piercing: &'a [u16],
+    // Whether some point, kept edge or inner triangle may lie off the boundary. No answer rests on it.
+    pub loose: bool,
 }
