@@ -19,7 +19,7 @@ pub struct Pool<'a> {
     pub codes: &'a [u16],
     pub qualities: &'a [u32],
     // The boundary triangles' codes in their order, and the boundary as flags by face code.
-    pub boundary: &'a [u16; 4096],
+    pub boundary: &'a [u16],
     pub bound: &'a [u16; 4096],
     // The chains of owners: the first by face code, the next by place among the codes. No answer rests on them.
     pub links: &'a [[u16; 7280]; 2],
