@@ -15,3 +15,7 @@ module _ (xs : List ℕ) (k i : ℕ) where
 
 pub all_four : (xs : List ℕ) (k : ℕ) {n i : ℕ} → k * 4 + 4 ≤ length xs → length (take (k * 4 + 4 - k * 4) (drop (k * 4) xs)) ≤ n → i < 4 → i < n
 all_four xs k h l b = let e = length-take (k * 4 + 4 - k * 4) (drop (k * 4) xs) in let f = length-drop (k * 4) xs in omega arith
+
+-- all of them passed
+pub end_four : (xs : List ℕ) (k : ℕ) {i : ℕ} → k * 4 + 4 ≤ length xs → length (take (k * 4 + 4 - k * 4) (drop (k * 4) xs)) ≤ i → i ≤ length (take (k * 4 + 4 - k * 4) (drop (k * 4) xs)) → i ≡ 4
+end_four xs k h l b = let e = length-take (k * 4 + 4 - k * 4) (drop (k * 4) xs) in let f = length-drop (k * 4) xs in omega arith
