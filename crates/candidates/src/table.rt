@@ -1,0 +1,111 @@
+// A table of candidates, by number: the four points of each, the codes of its four faces and its quality.
+ghost use Rattle.std.specs.Prelude.{◌≡◌, ◌∷◌, [], ◌+◌, ◌*◌, ◌<◌, ◌≤◌, length, get_or, set, replicate};
+ghost use Rattle.laws.specs.Laws.{fours_in};
+ghost use Rattle.laws.specs.Lists.{Lists as JobLists};
+ghost use Rattle.fillings.specs.Filing.{put_four};
+ghost use Rattle.fillings.specs.Marks.{marked};
+ghost use Rattle.candidates.specs.Table.{FiledIn, candidates_of};
+
+#[derive(Clone, Copy)]
+pub struct Candidates {
+    // How many there are.
+    pub m: usize,
+    pub fours: [u8; 7280],
+    pub codes: [u16; 7280],
+    pub qualities: [u32; 1820],
+}
+
+impl Candidates {
+    // None.
+    #[inline(always)]
+    pub fn new() -> Candidates
+        ensures { result ≡ record { m = 0; fours = replicate 7280 0; codes = replicate 7280 0; qualities = replicate 1820 0 } }
+    {
+        Candidates {
+            m: 0,
+            fours: [0; 7280],
+            codes: [0; 7280],
+            qualities: [0; 1820],
+        }
+    }
+
+    // One more.
+    pub(crate) fn push(&mut self, four: [u8; 4], faces: [u16; 4], quality: u32)
+        requires { self.old.m < 1820 }
+        ensures count { self.new.m ≡ self.old.m + 1 }
+        ensures fours { self.new.fours ≡ put_four self.old.m (get_or four 0 0) (get_or four 1 0) (get_or four 2 0) (get_or four 3 0) self.old.fours }
+        ensures codes { self.new.codes ≡ put_four self.old.m (get_or faces 0 0) (get_or faces 1 0) (get_or faces 2 0) (get_or faces 3 0) self.old.codes }
+        ensures qualities { self.new.qualities ≡ set self.old.qualities self.old.m quality }
+    {
+        put_four(&mut self.fours, self.m, four);
+        put_codes(&mut self.codes, self.m, faces);
+        self.qualities[self.m] = quality;
+        self.m += 1;
+    }
+
+    // The points of the candidate k.
+    pub fn four(&self, k: usize) -> [u8; 4]
+        requires { k < 1820 }
+        ensures { result ≡ get_or self.now.fours (k * 4) 0 ∷ get_or self.now.fours (k * 4 + 1) 0 ∷ get_or self.now.fours (k * 4 + 2) 0 ∷ get_or self.now.fours (k * 4 + 3) 0 ∷ [] }
+    {
+        let at = k * 4;
+        [
+            self.fours[at],
+            self.fours[at + 1],
+            self.fours[at + 2],
+            self.fours[at + 3],
+        ]
+    }
+
+    // The codes of its faces.
+    pub fn faces(&self, k: usize) -> [u16; 4]
+        requires { k < 1820 }
+        ensures { result ≡ get_or self.now.codes (k * 4) 0 ∷ get_or self.now.codes (k * 4 + 1) 0 ∷ get_or self.now.codes (k * 4 + 2) 0 ∷ get_or self.now.codes (k * 4 + 3) 0 ∷ [] }
+    {
+        let at = k * 4;
+        [
+            self.codes[at],
+            self.codes[at + 1],
+            self.codes[at + 2],
+            self.codes[at + 3],
+        ]
+    }
+}
+
+// Writes the points of a four at the place k.
+pub fn put_four(fours: &mut [u8], k: usize, four: [u8; 4])
+    requires { k * 4 + 4 ≤ length fours.old }
+    ensures { fours.new ≡ put_four k (get_or four 0 0) (get_or four 1 0) (get_or four 2 0) (get_or four 3 0) fours.old }
+{
+    let [a, b, c, d] = four;
+    fours[k * 4] = a;
+    fours[k * 4 + 1] = b;
+    fours[k * 4 + 2] = c;
+    fours[k * 4 + 3] = d;
+}
+
+// Writes the codes of its faces.
+fn put_codes(codes: &mut [u16], k: usize, faces: [u16; 4])
+    requires { k * 4 + 4 ≤ length codes.old }
+    ensures { codes.new ≡ put_four k (get_or faces 0 0) (get_or faces 1 0) (get_or faces 2 0) (get_or faces 3 0) codes.old }
+{
+    let [a, b, c, d] = faces;
+    codes[k * 4] = a;
+    codes[k * 4 + 1] = b;
+    codes[k * 4 + 2] = c;
+    codes[k * 4 + 3] = d;
+}
+
+// The alive ones of some candidates, as candidates of their own.
+pub fn compact(all: &Candidates, marks: &[u16], alive: &mut Candidates)
+    requires { (all.now.m ≤ 1820) × (all.now.m ≤ length marks.now) × (alive.old.m ≡ 0) }
+    ensures filed { (L : JobLists) → FiledIn L all.now → FiledIn L alive.new }
+    ensures alive { candidates_of alive.new ≡ marked 1 (candidates_of all.now) marks.now }
+{
+    // By number: k is a candidate's place in three tables and in the marks.
+    for k in 0..all.m {
+        if marks[k] == 1 {
+            alive.push(all.four(k), all.faces(k), all.qualities[k]);
+        }
+    }
+}
