@@ -10,7 +10,7 @@ use Rattle.laws.specs.Lists.{Lists}
 use Rattle.laws.specs.Check.{job_refusal}
 use Rattle.laws.specs.inner.Listed.{edge_at, tri_at}
 use Rattle.fillings.proofs.ByCode.BoundaryCodes.{accepted_kept_present, accepted_inner_present}
-use Rattle.candidates.proofs.Pooling.Chunks.{ChunkOf, chunk_first}
+use Rattle.trail.proofs.Chunks.{ChunkOf, chunk_first}
 
 -- t names the points a, b (and c) of the list
 pub record EdgeGiven (n a b : ℕ) (t : List ℕ) : Type 0 where

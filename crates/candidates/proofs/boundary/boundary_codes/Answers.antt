@@ -8,7 +8,7 @@ use Rattle.std.specs.Slice.Iter.{chunks_exact_rest, chunks_exact_size}
 use Rattle.laws.specs.inner.FaceCodes.{face_code}
 use Rattle.laws.specs.inner.Listed.{tri_at}
 use Rattle.fillings.proofs.Loops.BoundaryLoops.{BoundaryCodesTo, boundary_codes_start, boundary_codes_next, boundary_codes_done}
-use Rattle.candidates.proofs.Pooling.Chunks.{AtChunk, chunks_begin, chunk_given, chunk_passed, chunk_triangle, chunks_over}
+use Rattle.trail.proofs.Chunks.{AtChunk, chunks_begin, chunk_given, chunk_passed, chunk_triangle, chunks_over}
 use Rattle.candidates.proofs.boundary.boundary_codes.Goals as goal
 
 pub loop-i-init : goal.loop-i-init
