@@ -1,10 +1,13 @@
 // A table of candidates, by number: the four points of each, the codes of its four faces and its quality.
-ghost use Rattle.std.specs.Prelude.{◌≡◌, ◌∷◌, [], ◌+◌, ◌*◌, ◌<◌, ◌≤◌, length, get_or, set, replicate};
+ghost use Rattle.std.specs.Prelude.{◌≡◌, ◌∷◌, [], ◌+◌, ◌*◌, ◌/◌, ◌<◌, ◌≤◌, length, get_or, set, replicate};
 ghost use Rattle.laws.specs.Laws.{fours_in};
 ghost use Rattle.laws.specs.Lists.{Lists as JobLists};
 ghost use Rattle.fillings.specs.Filing.{put_four};
 ghost use Rattle.fillings.specs.Marks.{marked};
-ghost use Rattle.candidates.specs.Table.{FiledIn, candidates_of};
+ghost use Rattle.candidates.specs.Table.{FiledIn, PoolOf, candidates_of};
+
+use crate::boundary::Faces;
+use trail::pool::{Lists, Pool};
 
 #[derive(Clone, Copy)]
 pub struct Candidates {
@@ -41,6 +44,27 @@ impl Candidates {
         put_codes(&mut self.codes, self.m, faces);
         self.qualities[self.m] = quality;
         self.m += 1;
+    }
+
+    // What a search reads of them, with what stands by face code.
+    pub fn pool<'a>(
+        &'a self,
+        lists: &Lists,
+        faces: &'a Faces,
+        links: &'a [[u16; 7280]; 2],
+    ) -> Pool<'a>
+        requires { length lists.now.triangles.now / 3 ≤ 4096 }
+        ensures { PoolOf lists.now faces.now self.now result }
+    {
+        Pool {
+            m: self.m,
+            fours: &self.fours,
+            codes: &self.codes,
+            qualities: &self.qualities,
+            boundary: &faces.boundary[..lists.triangles.len() / 3],
+            bound: &faces.bound,
+            links,
+        }
     }
 
     // The points of the candidate k.
