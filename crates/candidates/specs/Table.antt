@@ -26,3 +26,4 @@ pub record PoolOf (l : LentLists) (f : Faces) (c : Candidates) (p : Pool) : Type
   pub qualities : p.qualities.now ≡ c.qualities
   pub boundary : p.boundary.now ≡ take (length l.triangles.now / 3) f.boundary
   pub bound : p.bound.now ≡ f.bound
+  pub bound_long : length p.bound.now ≡ 4096
