@@ -19,4 +19,5 @@ returns c =
       signs = c.fill_rows.ensures;
       boundary_codes = c.boundary_codes-boundary.ensures.0;
       bounds = boundary_code_flags (lists_of c.args.lists.now) c.boundary_codes-boundary.ensures.0 c.named-bound.ensures;
+      bound_long = omega arith;
     }
