@@ -9,6 +9,7 @@ use lib.Seq.{length-take-le}
 use Rattle.laws.specs.Laws.{broken, lawful}
 use Rattle.laws.specs.Lists.{Lists, job_lists}
 use Rattle.laws.specs.Check.{job}
+use Rattle.judge.proofs.Laws.{none_broken}
 use Rattle.judge.proofs.Judging.{whole_fours}
 use Rattle.offers.proofs.BytesOfFours.{fours_listed_in_front}
 use Rattle.triangulations.proofs.GoodRings.{Good, good_ring}
@@ -43,4 +44,4 @@ returns c =
     let l : Lists = job_lists c.args.self.now.points.now c.args.self.now.triangles.now [] [] c.args.self.now.table.now in
     let z : length (take (m * 4) xs) % 4 ≡ 0 = rw (length-take-le (m * 4) xs (room w)) (omega arith) in
     let e = whole_fours (job l) (take (m * 4) xs) z ∙ ap (broken (job l)) (fours_listed_in_front m xs (room w) ∙ c.write_row.ensures.0) in
-    ap (λ (x : ℕ). eqb x 0) (c.lowest_broken.ensures ∙ e)
+    none_broken c.lowest_broken.result c.is_none.result c.is_none.ensures ∙ ap (λ (x : ℕ). eqb x 0) (c.lowest_broken.ensures ∙ e)
