@@ -109,6 +109,7 @@ pub fn put_four(fours: &mut [u8], k: usize, four: [u8; 4])
 }
 
 // Writes the codes of its faces.
+// Beside `put_four`: `put_four` of the specs is on lists of numbers, and a generic T would not be one.
 fn put_codes(codes: &mut [u16], k: usize, faces: [u16; 4])
     requires { k * 4 + 4 ≤ length codes.old }
     ensures { codes.new ≡ put_four k (get_or faces 0 0) (get_or faces 1 0) (get_or faces 2 0) (get_or faces 3 0) codes.old }
