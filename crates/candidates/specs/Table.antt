@@ -15,8 +15,14 @@ candidates_of c = fours_in c.m c.fours
 abbrev pub FiledIn : Lists → Candidates → Type 0
 FiledIn l c = Filed l c.fours c.codes c.qualities c.m
 
+abbrev pub FiledPool : Lists → Pool → Type 0
+FiledPool l p = Filed l p.fours.now p.codes.now p.qualities.now p.m
+
 abbrev pub WholeIn : Lists → (q : ℕ) → Candidates → Type 0
 WholeIn l q c = Whole l q c.fours c.codes c.qualities c.m
+
+abbrev pub WholePool : Lists → (q : ℕ) → Pool → Type 0
+WholePool l q p = Whole l q p.fours.now p.codes.now p.qualities.now p.m
 
 -- the table lent to a search, with what stands by face code
 pub record PoolOf (l : LentLists) (f : Faces) (c : Candidates) (p : Pool) : Type 0 where

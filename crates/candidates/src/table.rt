@@ -4,7 +4,8 @@ ghost use Rattle.laws.specs.Laws.{fours_in};
 ghost use Rattle.laws.specs.Lists.{Lists as JobLists};
 ghost use Rattle.fillings.specs.Filing.{put_four};
 ghost use Rattle.fillings.specs.Marks.{marked};
-ghost use Rattle.candidates.specs.Table.{FiledIn, PoolOf, candidates_of};
+ghost use Rattle.trail.specs.Pool.{fours_of};
+ghost use Rattle.candidates.specs.Table.{FiledIn, FiledPool, PoolOf, candidates_of};
 
 use crate::boundary::Faces;
 use trail::pool::{Lists, Pool};
@@ -66,34 +67,24 @@ impl Candidates {
             links,
         }
     }
+}
 
-    // The points of the candidate k.
-    pub fn four(&self, k: usize) -> [u8; 4]
-        requires { k < 1820 }
-        ensures { result ≡ get_or self.now.fours (k * 4) 0 ∷ get_or self.now.fours (k * 4 + 1) 0 ∷ get_or self.now.fours (k * 4 + 2) 0 ∷ get_or self.now.fours (k * 4 + 3) 0 ∷ [] }
-    {
-        let at = k * 4;
-        [
-            self.fours[at],
-            self.fours[at + 1],
-            self.fours[at + 2],
-            self.fours[at + 3],
-        ]
-    }
+// The points of the candidate k.
+pub(crate) fn points_of(fours: &[u8], k: usize) -> [u8; 4]
+    requires { (k < 1820) × (k * 4 + 4 ≤ length fours.now) }
+    ensures { result ≡ get_or fours.now (k * 4) 0 ∷ get_or fours.now (k * 4 + 1) 0 ∷ get_or fours.now (k * 4 + 2) 0 ∷ get_or fours.now (k * 4 + 3) 0 ∷ [] }
+{
+    let at = k * 4;
+    [fours[at], fours[at + 1], fours[at + 2], fours[at + 3]]
+}
 
-    // The codes of its faces.
-    pub fn faces(&self, k: usize) -> [u16; 4]
-        requires { k < 1820 }
-        ensures { result ≡ get_or self.now.codes (k * 4) 0 ∷ get_or self.now.codes (k * 4 + 1) 0 ∷ get_or self.now.codes (k * 4 + 2) 0 ∷ get_or self.now.codes (k * 4 + 3) 0 ∷ [] }
-    {
-        let at = k * 4;
-        [
-            self.codes[at],
-            self.codes[at + 1],
-            self.codes[at + 2],
-            self.codes[at + 3],
-        ]
-    }
+// The codes of its faces.
+fn faces_of(codes: &[u16], k: usize) -> [u16; 4]
+    requires { (k < 1820) × (k * 4 + 4 ≤ length codes.now) }
+    ensures { result ≡ get_or codes.now (k * 4) 0 ∷ get_or codes.now (k * 4 + 1) 0 ∷ get_or codes.now (k * 4 + 2) 0 ∷ get_or codes.now (k * 4 + 3) 0 ∷ [] }
+{
+    let at = k * 4;
+    [codes[at], codes[at + 1], codes[at + 2], codes[at + 3]]
 }
 
 // Writes the points of a four at the place k.
@@ -121,16 +112,21 @@ fn put_codes(codes: &mut [u16], k: usize, faces: [u16; 4])
     codes[k * 4 + 3] = d;
 }
 
-// The alive ones of some candidates, as candidates of their own.
-pub fn compact(all: &Candidates, marks: &[u16], alive: &mut Candidates)
-    requires { (all.now.m ≤ 1820) × (all.now.m ≤ length marks.now) × (alive.old.m ≡ 0) }
-    ensures filed { (L : JobLists) → FiledIn L all.now → FiledIn L alive.new }
-    ensures alive { candidates_of alive.new ≡ marked 1 (candidates_of all.now) marks.now }
+// The alive ones of a pool, as candidates of their own.
+pub fn compact(pool: &Pool, marks: &[u16], alive: &mut Candidates)
+    requires { (pool.now.m ≤ 1820) × (pool.now.m * 4 ≤ length pool.now.fours.now) × (pool.now.m * 4 ≤ length pool.now.codes.now) × (pool.now.m ≤ length pool.now.qualities.now) × (pool.now.m ≤ length marks.now) }
+    ensures filed { (L : JobLists) → FiledPool L pool.now → FiledIn L alive.new }
+    ensures alive { candidates_of alive.new ≡ marked 1 (fours_of pool.now) marks.now }
 {
+    alive.m = 0;
     // By number: k is a candidate's place in three tables and in the marks.
-    for k in 0..all.m {
+    for k in 0..pool.m {
         if marks[k] == 1 {
-            alive.push(all.four(k), all.faces(k), all.qualities[k]);
+            alive.push(
+                points_of(pool.fours, k),
+                faces_of(pool.codes, k),
+                pool.qualities[k],
+            );
         }
     }
 }

@@ -2,9 +2,8 @@
 use mathlib.Core.Path.{◌≡◌, refl}
 use Prim.Native.Nat.{ℕ}
 use Rattle.laws.specs.Lists.{Lists}
-use Rattle.laws.specs.Check.{job, job_refusal}
+use Rattle.laws.specs.Check.{job}
 use Rattle.fillings.specs.Codes.{BoundFlags}
-use Rattle.fillings.specs.Steps.{Context}
 use Rattle.fillings.specs.Tables.{Whole}
 use Rattle.trail.specs.declared.pool.Lists.{Lists as LentLists}
 use Rattle.trail.specs.declared.pool.Pool.{Pool}
@@ -13,7 +12,6 @@ use Rattle.candidates.specs.declared.boundary.Faces.{Faces}
 use Rattle.candidates.specs.declared.table.Candidates.{Candidates}
 use Rattle.candidates.specs.Faces.{FacesOf}
 use Rattle.candidates.specs.Table.{PoolOf, WholeIn, candidates_of}
-use Rattle.raising.proofs.Raising.Thresholds.{filed_context}
 
 module _ (l : LentLists) (f : Faces) (c : Candidates) (p : Pool) (x : PoolOf l f c p) where
   pub lent_whole : {L : Lists} {q : ℕ} → WholeIn L q c → Whole L q p.fours.now p.codes.now p.qualities.now p.m
@@ -22,6 +20,5 @@ module _ (l : LentLists) (f : Faces) (c : Candidates) (p : Pool) (x : PoolOf l f
   pub lent_fours : fours_of p ≡ candidates_of c
   lent_fours = rw (x.count, x.fours) refl
 
-  pub lent_context : {q : ℕ} → job_refusal (lists_of l) ≡ 0 → FacesOf (lists_of l) f → WholeIn (lists_of l) q c → Context (lists_of l) p.fours.now p.codes.now p.bound.now p.m
-  lent_context ok e w =
-      let flags : BoundFlags (job (lists_of l)).triangles p.bound.now = rw x.bound e.bounds in filed_context ok (lent_whole w).filed flags x.bound_long
+  pub lent_flags : FacesOf (lists_of l) f → BoundFlags (job (lists_of l)).triangles p.bound.now
+  lent_flags e = rw x.bound e.bounds

@@ -4,4 +4,4 @@ use Rattle.candidates.proofs.Pooling.Compacting.{Compacted}
 use Rattle.candidates.proofs.table.compact.Given as goal
 
 abbrev pub invariant-loop-k : goal.invariant-loop-k
-invariant-loop-k l = (l.k ≤ l.all.m) × Compacted l.all l.marks l.k l.alive
+invariant-loop-k l = (l.k ≤ l.pool.m) × Compacted l.pool l.marks l.k l.alive
