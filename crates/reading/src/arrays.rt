@@ -6,7 +6,7 @@ use crate::counts::Counts;
 use crate::read::read_job;
 
 // The lists stand first in the arrays, as many numbers of each as are counted.
-#[derive(Drop)]
+#[derive(Clone, Copy)]
 pub struct JobArrays {
     counts: Counts,
     points: [i32; 51],
