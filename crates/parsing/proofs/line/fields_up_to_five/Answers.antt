@@ -20,10 +20,11 @@ returns-then-stop-bytes c =
     (omega arith) (omega arith)
 
 pub loop-i-preserved : goal.loop-i-preserved
-loop-i-preserved c =
-    (search rules,
-     field_taken c.loop-i.invariant.1 c.find-stop.result c.find-stop.ensures c.loop-i.invariant.0 (omega arith) _ c.in_ok-values.ensures.0
-     (let t = rw c.in_ok-values.was at c.field_in.type_inv in to_z-of_z {w = w32} (record { sfits = t.1.1.1.1.0.1 }) ∙ c.in_ok-values.ensures.1))
+loop-i-preserved c = (
+  search rules,
+  field_taken c.loop-i.invariant.1 c.find-stop.result c.find-stop.ensures c.loop-i.invariant.0 (omega arith) _ c.in_ok-values.ensures.0
+      (let t = rw c.in_ok-values.was at c.field_in.type_inv in to_z-of_z {w = w32} (record { sfits = t.1.1.1.1.0.1 }) ∙ c.in_ok-values.ensures.1),
+)
 
 pub returns : goal.returns
 returns c = over_five c.loop-i.invariant.1 (omega arith) c.loop-i.invariant.0
