@@ -82,9 +82,9 @@ extern "C" {
 #define COTTONTUFF_BENCH_TETS 256
 
 /* A stack for cottontuff_search, cottontuff_search_inner, cottontuff_search_limited, cottontuff_explain, cottontuff_print and cottontuff_bench_replace. Each level of the search's recursion sets a tetrahedron, and no more than 280 can be set at once: the second is
- * proved. A level takes at most 128 bytes, read off the library, and 596,264 was the deepest that was measured, levels included (docs/BENCHMARKS.md): the compiler's part is not proved.
- * The limited search has a recursion of its own, of at most 280 levels too, which is proved: 560 bytes a level, and 72,360 was the deepest that was measured.
- * An explanation goes down into the search's recursion: 548,088 was the deepest that was measured. cottontuff_remove_edge has no recursion, and took 25,808 at most. */
+ * proved. A level takes at most 128 bytes, read off the library, and 525,320 was the deepest that was measured, levels included (docs/BENCHMARKS.md): the compiler's part is not proved.
+ * The limited search has a recursion of its own, of at most 280 levels too, which is proved: 560 bytes a level, and 78,000 was the deepest that was measured.
+ * An explanation goes down into the search's recursion: 433,448 was the deepest that was measured. cottontuff_remove_edge has no recursion, and took 25,808 at most. */
 #define COTTONTUFF_STACK_BYTES (768 * 1024)
 
 /* ---- what is answered: of the numbers that apply, the one whose place comes first, whatever its size.
